@@ -1,0 +1,1 @@
+// No functions: sums, counts and tests over the numbers below a bound, and their laws.

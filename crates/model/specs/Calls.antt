@@ -1,0 +1,205 @@
+-- Document 01, 'Refusal table' and 'The walk': what an opening, a run and a showing answer, in the table's order of checks.
+-- Assumes nothing.
+use mathlib.Core.Bool.{Bool, true, false, not}
+use mathlib.Core.List.{List, [], _∷_}
+use mathlib.Core.Option.{Option, some, none}
+use Prim.Native.Nat.{ℕ, zero, suc, _+_, _*_}
+use lib.Dec.{eqb, ltb, leb}
+use lib.ListN.{length, set}
+use Rattle.counting.specs.Tests.{_and_, _or_, pick}
+use Rattle.model.specs.declared.Word.the-variants.{TooBig, OffMatrix, ShortBuffer, Order, Cap, NoSplit, Budget, State}
+use Rattle.model.specs.declared.Verdict.{Verdict}
+use Rattle.model.specs.declared.Verdict.the-variants.{Accepted, Refused}
+use Rattle.model.specs.declared.CapAnswer.{CapAnswer}
+use Rattle.model.specs.declared.CapAnswer.the-variants as cap-answer
+use Rattle.model.specs.declared.Search.{Search}
+use Rattle.model.specs.declared.Opened.{Opened}
+use Rattle.model.specs.declared.RunAnswer.{RunAnswer}
+use Rattle.model.specs.declared.RunAnswer.the-variants as run-answer
+use Rattle.model.specs.declared.Ran.{Ran}
+use Rattle.model.specs.declared.ShowAnswer.{ShowAnswer}
+use Rattle.model.specs.declared.ShowAnswer.the-variants as show-answer
+use Rattle.model.specs.Limits.{lineLimit, nonzeroLimit, capLimit, percentLimit, budgetLimit, triesLimit}
+use Rattle.model.specs.Refusal.{refuse, _then_}
+use Rattle.model.specs.Pattern.{Pattern, entryBytes, rowIn, columnIn, patternOf, lineTotal}
+use Rattle.model.specs.Split.{Split, partNumber, volume, capFromPercent}
+use Rattle.model.specs.Marking.{marking}
+use Rattle.model.specs.Walk.{Record, Rules, rulesOf, fresh, walk, floor, shownSplit}
+use Rattle.model.specs.State.{recordOf, searchOf, stateFine}
+
+-- outside the range 1 to the limit
+unfoldable pub outside : ℕ → ℕ → Bool
+outside limit x = eqb x 0 or ltb limit x
+
+-- 4: m, n or N outside its range
+unfoldable pub sizesVerdict : ℕ → ℕ → ℕ → Verdict
+sizesVerdict m n nonzeros =
+    refuse
+    (outside lineLimit m or outside lineLimit n or ltb nonzeroLimit nonzeros or ltb (m * n) nonzeros)
+    TooBig
+    0
+
+-- nonzero t comes after the one before it, by row and then column
+unfoldable pub rises : List ℕ → ℕ → Bool
+rises list zero = true
+rises list (suc t) =
+    ltb (rowIn list t) (rowIn list (suc t))
+    or (eqb (rowIn list t) (rowIn list (suc t)) and ltb (columnIn list t) (columnIn list (suc t)))
+
+-- 5, 10: row or column outside; list not strictly rising
+unfoldable pub entryVerdict : ℕ → ℕ → List ℕ → ℕ → Verdict
+entryVerdict m n list t =
+    refuse (leb m (rowIn list t) or leb n (columnIn list t)) OffMatrix t
+    then refuse (not (rises list t)) Order t
+
+-- per nonzero, in number order
+unfoldable pub entriesVerdict : ℕ → ℕ → List ℕ → ℕ → Verdict
+entriesVerdict m n list zero = Accepted
+entriesVerdict m n list (suc t) = entriesVerdict m n list t then entryVerdict m n list t
+
+-- the checks of a list: 4, 9, then per nonzero 5, 10
+unfoldable pub listVerdict : ℕ → ℕ → ℕ → List ℕ → Verdict
+listVerdict m n nonzeros list =
+    sizesVerdict m n nonzeros
+    then refuse (ltb (length list) (entryBytes * nonzeros)) ShortBuffer 0
+    then entriesVerdict m n list nonzeros
+
+-- opening: the list's checks; then 11, 12
+unfoldable pub openVerdict : ℕ → ℕ → ℕ → List ℕ → ℕ → Verdict
+openVerdict m n nonzeros list cap =
+    listVerdict m n nonzeros list
+    then refuse (ltb capLimit cap) Cap 0
+    then refuse (ltb (2 * cap) nonzeros) NoSplit 0
+
+-- run: the list's checks, then 14, then 13
+unfoldable pub runVerdict : Record → ℕ → ℕ → ℕ → List ℕ → ℕ → Verdict
+runVerdict r m n nonzeros list budget =
+    listVerdict m n nonzeros list
+    then refuse (not (stateFine (rulesOf (patternOf m n nonzeros list) (r .cap)) m n nonzeros r)) State 0
+    then refuse (ltb budgetLimit budget or ltb triesLimit (r .tries + budget)) Budget 0
+
+-- showing: the list's checks, then 14, then 9 for its parts
+unfoldable pub showVerdict : Record → ℕ → ℕ → ℕ → List ℕ → List ℕ → Verdict
+showVerdict r m n nonzeros list parts =
+    listVerdict m n nonzeros list
+    then refuse (not (stateFine (rulesOf (patternOf m n nonzeros list) (r .cap)) m n nonzeros r)) State 0
+    then refuse (ltb (length parts) nonzeros) ShortBuffer 0
+
+-- the cap from e: 4 for N, then 11
+unfoldable pub capVerdict : ℕ → ℕ → Verdict
+capVerdict nonzeros percent =
+    refuse (ltb nonzeroLimit nonzeros) TooBig 0 then refuse (ltb percentLimit percent) Cap 0
+
+-- what the cap from e answers, after this verdict
+unfoldable pub capAfter : Verdict → ℕ → ℕ → CapAnswer
+capAfter Accepted nonzeros percent = cap-answer.Capped (capFromPercent nonzeros percent)
+capAfter (Refused word place) nonzeros percent = cap-answer.Refused word place
+
+-- what the cap from e answers
+unfoldable pub capCall : ℕ → ℕ → CapAnswer
+capCall nonzeros percent = capAfter (capVerdict nonzeros percent) nonzeros percent
+
+-- the fresh record of a pattern
+unfoldable pub freshOf : Pattern → ℕ → Record
+freshOf P cap = fresh (P .m) (P .n) (P .size) cap (lineTotal P)
+
+-- the record that a refused opening leaves, with nothing in it
+unfoldable pub noRecord : Record
+noRecord =
+    record {
+      m = 0;
+      n = 0;
+      nonzeros = 0;
+      cap = 0;
+      tries = 0;
+      bestCount = 0;
+      best = none;
+      complete = false;
+      trail = [];
+    }
+
+-- the search that an opening answers, after this verdict
+unfoldable pub openedAfter : Verdict → Pattern → ℕ → Search
+openedAfter Accepted P cap = searchOf (freshOf P cap)
+openedAfter (Refused word place) P cap = searchOf noRecord
+
+-- what an opening answers
+unfoldable pub openCall : ℕ → ℕ → ℕ → List ℕ → ℕ → Opened
+openCall m n nonzeros list cap =
+    let verdict = openVerdict m n nonzeros list cap in
+    record {
+      verdict = verdict;
+      search = openedAfter verdict (patternOf m n nonzeros list) cap;
+    }
+
+-- complete, or stopped otherwise
+unfoldable pub ended : Bool → RunAnswer
+ended true = run-answer.Complete
+ended false = run-answer.Stopped
+
+-- the record after an accepted run
+unfoldable pub ranRecord : Record → Pattern → ℕ → Record
+ranRecord r P budget = walk (rulesOf P (r .cap)) budget r
+
+-- what a run answers, after this verdict; a refused one returns the search unchanged
+unfoldable pub ranAfter : Verdict → Search → Pattern → ℕ → Ran
+ranAfter Accepted s P budget =
+    let r = ranRecord (recordOf s) P budget in
+    record { answer = ended (r .complete); search = searchOf r }
+ranAfter (Refused word place) s P budget =
+    record { answer = run-answer.Refused word place; search = s }
+
+-- what a run answers
+unfoldable pub runCall : Search → ℕ → ℕ → ℕ → List ℕ → ℕ → Ran
+runCall s m n nonzeros list budget =
+    ranAfter
+    (runVerdict (recordOf s) m n nonzeros list budget)
+    s
+    (patternOf m n nonzeros list)
+    budget
+
+-- the split shown from a best marking
+unfoldable pub shownFrom : Pattern → ℕ → List ℕ → Split
+shownFrom P cap best = shownSplit P cap (marking P best)
+
+-- what an accepted showing gives: the volume of the shown split and the floor; without a best marking "none yet" and the floor
+unfoldable pub shown : Pattern → ℕ → Option (List ℕ) → ℕ → ShowAnswer
+shown P cap none floor = show-answer.NoneYet floor
+shown P cap (some best) floor = show-answer.Split (volume P (shownFrom P cap best)) floor
+
+-- a parts buffer after a split is written to it: the part of each of the first nonzeros, and the bytes past them as they were
+unfoldable pub partBytes : Split → ℕ → List ℕ → List ℕ
+partBytes σ zero parts = parts
+partBytes σ (suc t) parts = set (partBytes σ t parts) t (partNumber (σ t))
+
+-- the parts buffer after an accepted showing; at "none yet" all its bytes stay
+unfoldable pub shownParts : Pattern → ℕ → Option (List ℕ) → List ℕ → List ℕ
+shownParts P cap none parts = parts
+shownParts P cap (some best) parts = partBytes (shownFrom P cap best) (P .size) parts
+
+-- what a showing answers, after this verdict
+unfoldable pub shownAfter : Verdict → Record → Pattern → ShowAnswer
+shownAfter Accepted r P = shown P (r .cap) (r .best) (floor (rulesOf P (r .cap)) r)
+shownAfter (Refused word place) r P = show-answer.Refused word place
+
+-- the parts buffer after a showing with this verdict; a refused one leaves its bytes
+unfoldable pub partsAfter : Verdict → Record → Pattern → List ℕ → List ℕ
+partsAfter Accepted r P parts = shownParts P (r .cap) (r .best) parts
+partsAfter (Refused word place) r P parts = parts
+
+-- what a showing answers
+unfoldable pub showCall : Search → ℕ → ℕ → ℕ → List ℕ → List ℕ → ShowAnswer
+showCall s m n nonzeros list parts =
+    shownAfter
+    (showVerdict (recordOf s) m n nonzeros list parts)
+    (recordOf s)
+    (patternOf m n nonzeros list)
+
+-- the parts buffer after a showing
+unfoldable pub showParts : Search → ℕ → ℕ → ℕ → List ℕ → List ℕ → List ℕ
+showParts s m n nonzeros list parts =
+    partsAfter
+    (showVerdict (recordOf s) m n nonzeros list parts)
+    (recordOf s)
+    (patternOf m n nonzeros list)
+    parts

@@ -1,0 +1,10 @@
+pub mod Limits
+pub mod Pattern
+pub mod Split
+pub mod Marking
+pub mod Bound
+pub mod Walk
+pub mod Refusal
+pub mod State
+pub mod Calls
+pub mod Samples

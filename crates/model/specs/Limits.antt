@@ -1,0 +1,27 @@
+-- The limits of document 01, section 'What the splitter covers'.
+-- Assumes nothing.
+use Prim.Native.Nat.{ℕ, _^_}
+
+-- rows m and columns n: 1 to this
+abbrev pub lineLimit : ℕ
+lineLimit = 120
+
+-- nonzeros N: 0 to this, and at most m × n
+abbrev pub nonzeroLimit : ℕ
+nonzeroLimit = 2000
+
+-- cap: 0 to this
+abbrev pub capLimit : ℕ
+capLimit = 2000
+
+-- percentage e: 0 to this
+abbrev pub percentLimit : ℕ
+percentLimit = 100
+
+-- budget of a call: 0 to this
+abbrev pub budgetLimit : ℕ
+budgetLimit = 1_000_000
+
+-- tries of a search: at most this
+abbrev pub triesLimit : ℕ
+triesLimit = 10 ^ 15

@@ -1,0 +1,67 @@
+-- Document 01, 'Pattern, split, cap': the list of nonzeros, the pattern, and its lines.
+-- Assumes nothing.
+use mathlib.Core.Bool.{Bool}
+use mathlib.Core.List.{List}
+use Prim.Native.Nat.{ℕ, _+_, _*_, _<_}
+use lib.Dec.{eqb, ltb}
+use lib.ListN.{getD}
+use Rattle.counting.specs.Tests.{_or_}
+use Rattle.counting.specs.Sums.{count, any}
+
+-- the bytes that a nonzero takes in a list
+abbrev pub entryBytes : ℕ
+entryBytes = 2
+
+-- a nonzero's row byte
+unfoldable pub rowIn : List ℕ → ℕ → ℕ
+rowIn list t = getD list (entryBytes * t) 0
+
+-- a nonzero's column byte
+unfoldable pub columnIn : List ℕ → ℕ → ℕ
+columnIn list t = getD list (entryBytes * t + 1) 0
+
+-- pattern: m rows, n columns, N nonzeros numbered from 0, each in a row and a column counted from 0
+pub record Pattern : Type 0 where
+  pub m : ℕ
+  pub n : ℕ
+  pub size : ℕ
+  pub row : ℕ → ℕ
+  pub column : ℕ → ℕ
+
+-- the pattern of a list
+unfoldable pub patternOf : ℕ → ℕ → ℕ → List ℕ → Pattern
+patternOf m n nonzeros list =
+    record { m = m; n = n; size = nonzeros; row = rowIn list; column = columnIn list }
+
+-- line: rows and columns together
+unfoldable pub lines : Pattern → ℕ
+lines P = P .m + P .n
+
+-- row i is line i: the line of a nonzero's row
+unfoldable pub rowLine : Pattern → ℕ → ℕ
+rowLine P t = P .row t
+
+-- column j is line m + j: the line of a nonzero's column
+unfoldable pub columnLine : Pattern → ℕ → ℕ
+columnLine P t = P .m + P .column t
+
+-- line l holds nonzero t
+unfoldable pub on : Pattern → ℕ → ℕ → Bool
+on P l t = eqb l (rowLine P t) or eqb l (columnLine P t)
+
+-- nonzero count of a line
+unfoldable pub lineCount : Pattern → ℕ → ℕ
+lineCount P l = count (on P l) (P .size)
+
+-- a line with nonzeros
+unfoldable pub nonempty : Pattern → ℕ → Bool
+nonempty P l = ltb 0 (lineCount P l)
+
+-- k: the number of lines with nonzeros
+unfoldable pub lineTotal : Pattern → ℕ
+lineTotal P = count (nonempty P) (lines P)
+
+-- every nonzero lies in the matrix, as check 5 sees to
+pub record Inside (P : Pattern) : Type 0 where
+  pub row-in : (t : ℕ) → t < P .size → P .row t < P .m
+  pub column-in : (t : ℕ) → t < P .size → P .column t < P .n

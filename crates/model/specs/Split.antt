@@ -1,0 +1,59 @@
+-- Document 01, 'Pattern, split, cap': a split, its load and volume, and meeting a cap.
+-- Assumes nothing.
+use mathlib.Core.Bool.{Bool, true, false}
+use Prim.Native.Nat.{ℕ, _+_, _-_, _*_, _/_, _≤_}
+use Rattle.counting.specs.Tests.{_and_, bit}
+use Rattle.counting.specs.Sums.{sum, count, any}
+use Rattle.model.specs.declared.Part.{Part}
+use Rattle.model.specs.declared.Part.the-variants.{Zero, One}
+use Rattle.model.specs.Pattern.{Pattern, lines, on, lineTotal}
+
+-- part 0 or 1, as a number
+abbrev pub partNumber : Part → ℕ
+partNumber Zero = 0
+partNumber One = 1
+
+-- the other part
+unfoldable pub other : Part → Part
+other Zero = One
+other One = Zero
+
+-- the two parts are the same
+unfoldable pub samePart : Part → Part → Bool
+samePart Zero Zero = true
+samePart Zero One = false
+samePart One Zero = false
+samePart One One = true
+
+-- split: gives each nonzero part 0 or 1
+abbrev pub Split : Type 0
+Split = ℕ → Part
+
+-- line l has nonzeros in part p
+unfoldable pub holds : Pattern → Split → Part → ℕ → Bool
+holds P σ p l = any (λ t. on P l t and samePart p (σ t)) (P .size)
+
+-- cut: the line has nonzeros in both parts
+unfoldable pub isCut : Pattern → Split → ℕ → Bool
+isCut P σ l = holds P σ Zero l and holds P σ One l
+
+-- the number of parts that hold some of a line's nonzeros
+unfoldable pub partsOn : Pattern → Split → ℕ → ℕ
+partsOn P σ l = bit (holds P σ Zero l) + bit (holds P σ One l)
+
+-- volume as published: the number of parts on each line, summed, less one for each line with nonzeros
+unfoldable pub volume : Pattern → Split → ℕ
+volume P σ = sum (partsOn P σ) (lines P) - lineTotal P
+
+-- load: a part's number of nonzeros
+unfoldable pub load : Pattern → Split → Part → ℕ
+load P σ p = count (λ t. samePart p (σ t)) (P .size)
+
+-- a split meets the cap
+pub record Meets (P : Pattern) (cap : ℕ) (σ : Split) : Type 0 where
+  pub zero-fits : load P σ Zero ≤ cap
+  pub one-fits : load P σ One ≤ cap
+
+-- cap from a percentage: the whole part of (100 + e) × N / 200
+unfoldable pub capFromPercent : ℕ → ℕ → ℕ
+capFromPercent nonzeros percent = (100 + percent) * nonzeros / 200

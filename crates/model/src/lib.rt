@@ -1,0 +1,98 @@
+// The types of the code, as document 01 names them. There are no functions here: crates above compute with these types, and
+// specs/ says what they must compute.
+
+// A part of a split: processor 0 or processor 1.
+pub enum Part {
+    Zero,
+    One,
+}
+
+// A mark of a line: all its nonzeros go to a part, or it is cut.
+pub enum Mark {
+    To(Part),
+    Cut,
+}
+
+// What a marking makes of a line: it is marked, with its mark, or unmarked and in one of three conditions.
+pub enum Condition {
+    Marked(Mark),
+    Torn,
+    Leaning(Part),
+    Untouched,
+}
+
+// The words of the refusal table.
+pub enum Word {
+    Banner,
+    SizeLine,
+    EntryForm,
+    TooBig,
+    OffMatrix,
+    Repeated,
+    Count,
+    BadPart,
+    ShortBuffer,
+    Order,
+    Cap,
+    NoSplit,
+    Budget,
+    State,
+}
+
+// What a check answers: nothing to refuse, or a word of the table and a place.
+pub enum Verdict {
+    Accepted,
+    Refused(Word, u64),
+}
+
+// A marking in the order of lines: the mark of the line at place i is marks[i], for each i below len.
+pub struct Trail {
+    pub marks: [u8; 240],
+    pub len: usize,
+}
+
+// The running search: the record of the walk. Without `found` there is no best marking.
+pub struct Search {
+    pub m: u64,
+    pub n: u64,
+    pub nonzeros: u64,
+    pub cap: u64,
+    pub tries: u64,
+    pub best_count: u64,
+    pub found: bool,
+    pub best: Trail,
+    pub complete: bool,
+    pub trail: Trail,
+}
+
+// The cap from a percentage, or a refusal.
+pub enum CapAnswer {
+    Capped(u64),
+    Refused(Word, u64),
+}
+
+// An opening's answer, and the search where it was accepted.
+pub struct Opened {
+    pub verdict: Verdict,
+    pub search: Search,
+}
+
+// How an accepted run ended, or a refusal.
+pub enum RunAnswer {
+    Complete,
+    Stopped,
+    Refused(Word, u64),
+}
+
+// A run's answer, and the search after it.
+pub struct Ran {
+    pub answer: RunAnswer,
+    pub search: Search,
+}
+
+// A showing's answer: the volume of the split shown and the floor, or "none yet" and the floor, or a refusal.
+pub enum ShowAnswer {
+    Split { volume: u64, floor: u64 },
+    NoneYet { floor: u64 },
+    Refused(Word, u64),
+}
