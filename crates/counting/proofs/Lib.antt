@@ -1,0 +1,4 @@
+pub mod Joined
+pub mod Summed
+pub mod Counted
+pub mod Charged

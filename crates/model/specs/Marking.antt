@@ -2,7 +2,8 @@
 -- Assumes nothing.
 use mathlib.Core.Bool.{Bool, true, false, not}
 use mathlib.Core.List.{List, [], _∷_}
-use Prim.Native.Nat.{ℕ, zero, suc, _+_}
+use mathlib.Core.Path.{_≡_}
+use Prim.Native.Nat.{ℕ, zero, suc, _<_}
 use lib.Dec.{eqb, ltb, leb}
 use lib.ListN.{length}
 use Rattle.counting.specs.Tests.{_and_, _or_, pick}
@@ -14,7 +15,7 @@ use Rattle.model.specs.declared.Mark.the-variants.{To, Cut}
 use Rattle.model.specs.declared.Condition.{Condition}
 use Rattle.model.specs.declared.Condition.the-variants.{Marked, Torn, Leaning, Untouched}
 use Rattle.model.specs.Pattern.{Pattern, lines, rowLine, columnLine, on, lineCount}
-use Rattle.model.specs.Split.{partNumber}
+use Rattle.model.specs.Split.{Split, partNumber, isCut}
 
 -- mark 0, 1 or cut, as a number
 abbrev pub markNumber : Mark → ℕ
@@ -80,3 +81,8 @@ conditionFor (suc (suc (suc x))) false false = Untouched
 -- each line is either marked, with its mark, or unmarked and in one of three conditions
 unfoldable pub condition : Pattern → Marking → ℕ → Condition
 condition P μ l = conditionFor (μ l) (touched P μ Zero l) (touched P μ One l)
+
+-- a split agrees with a marking: all nonzeros of a line marked p are in p, and a line marked cut is cut
+pub record Agrees (P : Pattern) (μ : Marking) (σ : Split) : Type 0 where
+  pub in-part : (p : Part) (t : ℕ) → t < P .size → takes P μ p t ≡ true → σ t ≡ p
+  pub cut-line : (l : ℕ) → l < lines P → μ l ≡ markNumber Cut → isCut P σ l ≡ true
