@@ -6,7 +6,7 @@ use mathlib.Core.Option.{Option, some, none}
 use Prim.Native.Nat.{ℕ, zero, suc, _+_, _*_}
 use lib.Dec.{eqb, ltb, leb}
 use lib.ListN.{length, set}
-use Rattle.counting.specs.Tests.{_and_, _or_, pick}
+use Rattle.counting.specs.Tests.{_and_, _or_, bit}
 use Rattle.model.specs.declared.Word.the-variants.{TooBig, OffMatrix, ShortBuffer, Order, Cap, NoSplit, Budget, State}
 use Rattle.model.specs.declared.Verdict.{Verdict}
 use Rattle.model.specs.declared.Verdict.the-variants.{Accepted, Refused}
@@ -20,7 +20,7 @@ use Rattle.model.specs.declared.Ran.{Ran}
 use Rattle.model.specs.declared.ShowAnswer.{ShowAnswer}
 use Rattle.model.specs.declared.ShowAnswer.the-variants as show-answer
 use Rattle.model.specs.Limits.{lineLimit, nonzeroLimit, capLimit, percentLimit, budgetLimit, triesLimit}
-use Rattle.model.specs.Refusal.{refuse, _then_}
+use Rattle.model.specs.Refusal.{refusalCode, refuse, _then_}
 use Rattle.model.specs.Pattern.{Pattern, entryBytes, rowIn, columnIn, patternOf, lineTotal}
 use Rattle.model.specs.Split.{Split, partNumber, volume, capFromPercent}
 use Rattle.model.specs.Marking.{marking}
@@ -132,6 +132,10 @@ openCall m n nonzeros list cap =
       search = openedAfter verdict (patternOf m n nonzeros list) cap;
     }
 
+-- complete 0 or 1
+unfoldable pub completeNumber : Bool → ℕ
+completeNumber complete = bit complete
+
 -- complete, or stopped otherwise
 unfoldable pub ended : Bool → RunAnswer
 ended true = run-answer.Complete
@@ -203,3 +207,9 @@ showParts s m n nonzeros list parts =
     (recordOf s)
     (patternOf m n nonzeros list)
     parts
+
+-- a showing's answer as a number: 0, or 255 for "none yet", or a refusal as number + 256 × place
+unfoldable pub showCode : ShowAnswer → ℕ
+showCode (show-answer.Split volume floor) = 0
+showCode (show-answer.NoneYet floor) = 255
+showCode (show-answer.Refused word place) = refusalCode word place

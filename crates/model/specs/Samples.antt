@@ -1,1 +1,280 @@
--- samples
+-- Document 01, 'Sample patterns': those marked P as theorems about the definitions, under a single conjunction, and beside them the
+-- patterns on which the shortcuts give a false minimum. All are closed by computation.
+-- Assumes nothing.
+use mathlib.Core.Bool.{Bool, true, false}
+use mathlib.Core.List.{List, [], _∷_}
+use mathlib.Core.Option.{some, none}
+use mathlib.Core.Path.{_≡_, refl}
+use Prim.Native.Nat.{ℕ, zero, suc, _+_, min}
+use lib.Dec.{eqb, leb}
+use lib.ListN.{getD, replicate}
+use Rattle.counting.specs.Tests.{_and_, _or_, pick, bit}
+use Rattle.counting.specs.Sums.{sum, any}
+use Rattle.model.specs.declared.Part.{Part}
+use Rattle.model.specs.declared.Part.the-variants.{Zero, One}
+use Rattle.model.specs.declared.Word.the-variants.{TooBig, OffMatrix, ShortBuffer, Order, Cap, Budget, State}
+use Rattle.model.specs.declared.Verdict.the-variants.{Accepted, Refused}
+use Rattle.model.specs.declared.Search.{Search}
+use Rattle.model.specs.declared.Ran.{Ran}
+use Rattle.model.specs.declared.RunAnswer.the-variants as run-answer
+use Rattle.model.specs.declared.CapAnswer.the-variants as cap-answer
+use Rattle.model.specs.declared.ShowAnswer.{ShowAnswer}
+use Rattle.model.specs.declared.ShowAnswer.the-variants.{NoneYet}
+use Rattle.model.specs.declared.ShowAnswer.the-variants as show-answer
+use Rattle.model.specs.Pattern.{Pattern, rowIn, columnIn, patternOf, lines, rowLine, columnLine, on, lineCount, nonempty, lineTotal}
+use Rattle.model.specs.Split.{Split, samePart, holds, isCut, partsOn, volume, load, capFromPercent}
+use Rattle.model.specs.Marking.{Marking, precedes, place, markAt, marking, takes, taken, valid, touched, conditionFor, condition}
+use Rattle.model.specs.Bound.{saysCut, saysTorn, saysLeaning, leans, L1, L2, L3, L4, untaken, atStake, untakenOn, falling, leaningCounts, strikes, struck, conflict, mostChosen, bound}
+use Rattle.model.specs.Walk.{Record, Rules, rulesOf, fresh, givesPart, oneAllowed, afterZero, advance, cuts, isEmpty, tried, improved, stands, outcome, tryOnce, step, walk, putLater, beginningsLater, openMarkings, leastBound, floor, filled, shownSplit}
+use Rattle.model.specs.Refusal.{refusalCode, verdictCode, refuse, _then_}
+use Rattle.model.specs.State.{stack, bestIn, recordOf, arrayOf, trailOf, isFound, bestOr, searchOf, areMarks, startsWithZero, beginningsValid, trailFine, bestFine, stateFine}
+use Rattle.model.specs.Calls.{outside, sizesVerdict, rises, entryVerdict, entriesVerdict, listVerdict, openVerdict, runVerdict, showVerdict, capVerdict, capAfter, capCall, freshOf, noRecord, openedAfter, openCall, ended, ranRecord, ranAfter, runCall, shownFrom, shown, partBytes, shownParts, shownAfter, partsAfter, showCall, showParts}
+
+-- part p for nonzero t, and another split's parts for the others
+unfoldable pub withPart : Split → ℕ → Part → Split
+withPart σ t p s = pick (eqb s t) p (σ s)
+
+-- the least volume among the splits that meet the cap, by going through every split of the first nonzeros; more than all lines if there is none
+unfoldable pub leastAmong : Pattern → ℕ → ℕ → Split → ℕ
+leastAmong P cap zero σ =
+    pick (leb (load P σ Zero) cap and leb (load P σ One) cap) (volume P σ) (lines P + 1)
+leastAmong P cap (suc t) σ =
+    min (leastAmong P cap t (withPart σ t Zero)) (leastAmong P cap t (withPart σ t One))
+
+-- least volume of a pattern under a cap
+unfoldable pub leastVolume : Pattern → ℕ → ℕ
+leastVolume P cap = leastAmong P cap (P .size) (λ t. Zero)
+
+-- the walk of a pattern and a cap, from fresh
+unfoldable pub walked : Pattern → ℕ → ℕ → Record
+walked P cap tries = walk (rulesOf P cap) tries (freshOf P cap)
+
+-- how the walk stands after so many tries, or fewer if it is complete: complete or not, its tries, and what it shows
+unfoldable pub standsAt : Pattern → ℕ → ℕ → Bool × ℕ × ShowAnswer
+standsAt P cap tries =
+    let r = walked P cap tries in
+    (r .complete, r .tries, shownAfter Accepted r P)
+
+-- the walk stands so after so many tries
+abbrev pub Stands : Pattern → ℕ → ℕ → Bool → ℕ → ShowAnswer → Type 0
+Stands P cap after complete tries shows =
+    _≡_ {A = Bool × ℕ × ShowAnswer} (standsAt P cap after) (complete, tries, shows)
+
+-- the parts that the walk shows after so many tries
+unfoldable pub showsParts : Pattern → ℕ → ℕ → List ℕ
+showsParts P cap tries = shownParts P cap (walked P cap tries .best) (replicate (P .size) 7)
+
+-- one nonzero, 1 by 1
+abbrev pub single : Pattern
+single = patternOf 1 1 1 (0 ∷ 0 ∷ [])
+
+-- the 2 by 2 diagonal
+abbrev pub diagonalList : List ℕ
+diagonalList = 0 ∷ 0 ∷ 1 ∷ 1 ∷ []
+
+abbrev pub diagonal : Pattern
+diagonal = patternOf 2 2 2 diagonalList
+
+-- full 2 by 2
+abbrev pub fullTwo : Pattern
+fullTwo = patternOf 2 2 4 (0 ∷ 0 ∷ 0 ∷ 1 ∷ 1 ∷ 0 ∷ 1 ∷ 1 ∷ [])
+
+-- full 1 by 3
+abbrev pub fullRow : Pattern
+fullRow = patternOf 1 3 3 (0 ∷ 0 ∷ 0 ∷ 1 ∷ 0 ∷ 2 ∷ [])
+
+-- counted from 1: (1,1), (1,2), (2,2)
+abbrev pub corner : Pattern
+corner = patternOf 2 2 3 (0 ∷ 0 ∷ 0 ∷ 1 ∷ 1 ∷ 1 ∷ [])
+
+-- 2 by 3 without nonzeros
+abbrev pub blank : Pattern
+blank = patternOf 2 3 0 []
+
+-- counting a nonzero twice in s finds 2 here
+abbrev pub countedTwice : Pattern
+countedTwice = patternOf 3 4 8 (0 ∷ 2 ∷ 0 ∷ 3 ∷ 1 ∷ 1 ∷ 1 ∷ 2 ∷ 1 ∷ 3 ∷ 2 ∷ 0 ∷ 2 ∷ 2 ∷ 2 ∷ 3 ∷ [])
+
+-- adding L3 to L4 finds 3 here
+abbrev pub addedBounds : Pattern
+addedBounds = patternOf 4 4 9 (0 ∷ 2 ∷ 1 ∷ 2 ∷ 1 ∷ 3 ∷ 2 ∷ 1 ∷ 2 ∷ 2 ∷ 2 ∷ 3 ∷ 3 ∷ 0 ∷ 3 ∷ 1 ∷ 3 ∷ 3 ∷ [])
+
+-- holding free nonzeros against part 0 finds 3 here
+abbrev pub heldAgainst : Pattern
+heldAgainst = patternOf 3 3 6 (0 ∷ 2 ∷ 1 ∷ 0 ∷ 1 ∷ 1 ∷ 2 ∷ 0 ∷ 2 ∷ 1 ∷ 2 ∷ 2 ∷ [])
+
+-- full 1 by 2: never trying the first line as cut finds no split here
+abbrev pub neverCut : Pattern
+neverCut = patternOf 1 2 2 (0 ∷ 0 ∷ 0 ∷ 1 ∷ [])
+
+-- the corner's marking: column 1 is marked 0, row 2 is marked 1
+abbrev pub cornerMarking : Marking
+cornerMarking l = getD (3 ∷ 1 ∷ 0 ∷ 3 ∷ []) l 3
+
+-- to unfold this is to unfold every definition that a sample computes with
+computing : Type 0
+unfolding _and_ _or_ pick bit sum any rowIn columnIn patternOf lines rowLine columnLine on lineCount nonempty lineTotal samePart holds isCut partsOn volume load capFromPercent precedes place markAt marking takes taken valid touched conditionFor condition saysCut saysTorn saysLeaning leans L1 L2 L3 L4 untaken atStake untakenOn falling leaningCounts strikes struck conflict mostChosen bound rulesOf fresh givesPart oneAllowed afterZero advance cuts isEmpty tried improved stands outcome tryOnce step walk putLater beginningsLater openMarkings leastBound floor filled shownSplit refusalCode verdictCode refuse _then_ stack bestIn recordOf arrayOf trailOf isFound bestOr searchOf areMarks startsWithZero beginningsValid trailFine bestFine stateFine outside sizesVerdict rises entryVerdict entriesVerdict listVerdict openVerdict runVerdict showVerdict capVerdict capAfter capCall freshOf noRecord openedAfter openCall ended ranRecord ranAfter runCall shownFrom shown partBytes shownParts shownAfter partsAfter showCall showParts withPart leastAmong leastVolume walked standsAt showsParts
+computing = Unit
+
+-- the samples marked P
+pub record Samples : Type 0 where
+  -- cap from N and e
+  pub cap-4-0 : capFromPercent 4 0 ≡ 2
+  pub cap-233-3 : capFromPercent 233 3 ≡ 119
+  pub cap-1-0 : capFromPercent 1 0 ≡ 0
+  -- one nonzero, 1 by 1, cap 1: volume 0, 5 tries; cap 0: refusal 12
+  pub single-ends : Stands single 1 100 true 5 (show-answer.Split 0 0)
+  pub single-refused : verdictCode (openVerdict 1 1 1 (0 ∷ 0 ∷ []) 0) ≡ 12
+  -- the 2 by 2 diagonal, cap 1: volume 0, 11 tries; after 3 tries none yet, floor 0
+  pub diagonal-ends : Stands diagonal 1 100 true 11 (show-answer.Split 0 0)
+  pub diagonal-none-yet : Stands diagonal 1 3 false 3 (NoneYet 0)
+  -- full 2 by 2, cap 2: fresh floor 1; least volume 2
+  pub full-two-floor : floor (rulesOf fullTwo 2) (freshOf fullTwo 2) ≡ 1
+  pub full-two-least : leastVolume fullTwo 2 ≡ 2
+  pub full-two-ends : Stands fullTwo 2 100 true 13 (show-answer.Split 2 2)
+  -- full 1 by 3, cap 2: least volume 1; cap 1: refusal 12
+  pub full-row-least : leastVolume fullRow 2 ≡ 1
+  pub full-row-ends : Stands fullRow 2 100 true 10 (show-answer.Split 1 1)
+  pub full-row-refused : verdictCode (openVerdict 1 3 3 (0 ∷ 0 ∷ 0 ∷ 1 ∷ 0 ∷ 2 ∷ []) 1) ≡ 12
+  -- counted from 1, nonzeros (1,1), (1,2), (2,2), cap 2, column 1 marked 0, row 2 marked 1: L3 0, L4 1
+  pub corner-L3 : L3 corner 2 cornerMarking ≡ 0
+  pub corner-L4 : L4 corner cornerMarking ≡ 1
+  -- 2 by 3 without nonzeros, cap 0: volume 0, 0 tries, complete
+  pub blank-ends : Stands blank 0 100 true 0 (show-answer.Split 0 0)
+
+pub samples : Samples
+unfolding computing
+samples =
+    record {
+      cap-4-0 = refl;
+      cap-233-3 = refl;
+      cap-1-0 = refl;
+      single-ends = refl;
+      single-refused = refl;
+      diagonal-ends = refl;
+      diagonal-none-yet = refl;
+      full-two-floor = refl;
+      full-two-least = refl;
+      full-two-ends = refl;
+      full-row-least = refl;
+      full-row-ends = refl;
+      full-row-refused = refl;
+      corner-L3 = refl;
+      corner-L4 = refl;
+      blank-ends = refl;
+    }
+
+-- splits shown, part by part
+pub record ShownSplits : Type 0 where
+  -- taken nonzeros go to their part, and ties in the order of lines go to the lower line
+  pub diagonal-parts : showsParts diagonal 1 11 ≡ 0 ∷ 1 ∷ []
+  pub full-row-parts : showsParts fullRow 2 10 ≡ 0 ∷ 0 ∷ 1 ∷ []
+  -- nonzeros that are not taken fill part 0 first
+  pub free-parts : partBytes (shownFrom fullRow 2 (2 ∷ 2 ∷ 2 ∷ 2 ∷ [])) 3 (7 ∷ 7 ∷ 7 ∷ 7 ∷ []) ≡ 0 ∷ 0 ∷ 1 ∷ 7 ∷ []
+
+pub shownSplits : ShownSplits
+unfolding computing
+shownSplits =
+    record {
+      diagonal-parts = refl;
+      full-row-parts = refl;
+      free-parts = refl;
+    }
+
+-- the patterns on which a shortcut gives a false minimum: their least volumes, which the complete walk shows
+pub record Witnesses : Type 0 where
+  -- cap 7: least volume 1
+  pub counted-twice-least : leastVolume countedTwice 7 ≡ 1
+  pub counted-twice-ends : Stands countedTwice 7 38 true 38 (show-answer.Split 1 1)
+  -- cap 5: least volume 2
+  pub added-bounds-least : leastVolume addedBounds 5 ≡ 2
+  pub added-bounds-ends : Stands addedBounds 5 43 true 43 (show-answer.Split 2 2)
+  -- cap 3: least volume 2
+  pub held-against-least : leastVolume heldAgainst 3 ≡ 2
+  pub held-against-ends : Stands heldAgainst 3 31 true 31 (show-answer.Split 2 2)
+  -- cap 1: least volume 1
+  pub never-cut-least : leastVolume neverCut 1 ≡ 1
+  pub never-cut-ends : Stands neverCut 1 7 true 7 (show-answer.Split 1 1)
+
+pub witnesses : Witnesses
+unfolding computing
+witnesses =
+    record {
+      counted-twice-least = refl;
+      counted-twice-ends = refl;
+      added-bounds-least = refl;
+      added-bounds-ends = refl;
+      held-against-least = refl;
+      held-against-ends = refl;
+      never-cut-least = refl;
+      never-cut-ends = refl;
+    }
+
+-- the diagonal, opened; run for 3 tries; run for 8 more
+abbrev pub opened : Search
+opened = openCall 2 2 2 diagonalList 1 .search
+
+abbrev pub begun : Ran
+begun = runCall opened 2 2 2 diagonalList 3
+
+abbrev pub finished : Ran
+finished = runCall (begun .search) 2 2 2 diagonalList 8
+
+-- what calls answer
+pub record CallSamples : Type 0 where
+  -- the diagonal by calls, in pieces
+  pub begun-stopped : begun .answer ≡ run-answer.Stopped
+  pub begun-shows : showCall (begun .search) 2 2 2 diagonalList (7 ∷ 7 ∷ []) ≡ NoneYet 0
+  pub begun-parts : showParts (begun .search) 2 2 2 diagonalList (7 ∷ 7 ∷ []) ≡ 7 ∷ 7 ∷ []
+  pub finished-complete : finished .answer ≡ run-answer.Complete
+  pub finished-tries : finished .search .tries ≡ 11
+  pub finished-shows : showCall (finished .search) 2 2 2 diagonalList (7 ∷ 7 ∷ 7 ∷ []) ≡ show-answer.Split 0 0
+  pub finished-parts : showParts (finished .search) 2 2 2 diagonalList (7 ∷ 7 ∷ 7 ∷ []) ≡ 0 ∷ 1 ∷ 7 ∷ []
+  -- refusals, in the order of the table
+  pub short-parts : showCall (finished .search) 2 2 2 diagonalList (7 ∷ []) ≡ show-answer.Refused ShortBuffer 0
+  pub no-state : runCall (searchOf noRecord) 2 2 2 diagonalList 3 .answer ≡ run-answer.Refused State 0
+  pub state-first : runCall (searchOf noRecord) 2 2 2 diagonalList 1000001 .answer ≡ run-answer.Refused State 0
+  pub budget-taken : runVerdict (recordOf opened) 2 2 2 diagonalList 1000000 ≡ Accepted
+  pub budget-refused : runVerdict (recordOf opened) 2 2 2 diagonalList 1000001 ≡ Refused Budget 0
+  pub no-rows : listVerdict 0 2 2 diagonalList ≡ Refused TooBig 0
+  pub rows-taken : sizesVerdict 120 120 2000 ≡ Accepted
+  pub rows-refused : sizesVerdict 121 120 2000 ≡ Refused TooBig 0
+  pub cells-refused : sizesVerdict 2 2 5 ≡ Refused TooBig 0
+  pub short-list : listVerdict 2 2 2 (0 ∷ 0 ∷ 1 ∷ []) ≡ Refused ShortBuffer 0
+  pub off-matrix : listVerdict 2 2 2 (0 ∷ 0 ∷ 0 ∷ 2 ∷ []) ≡ Refused OffMatrix 1
+  pub out-of-order : listVerdict 2 2 2 (1 ∷ 1 ∷ 0 ∷ 0 ∷ []) ≡ Refused Order 1
+  pub repeated : listVerdict 2 2 2 (1 ∷ 1 ∷ 1 ∷ 1 ∷ []) ≡ Refused Order 1
+  pub cap-refused : openVerdict 2 2 2 diagonalList 2001 ≡ Refused Cap 0
+  pub percent-taken : capCall 233 3 ≡ cap-answer.Capped 119
+  pub percent-refused : capCall 233 101 ≡ cap-answer.Refused Cap 0
+  pub percent-too-big : capCall 2001 101 ≡ cap-answer.Refused TooBig 0
+
+pub callSamples : CallSamples
+unfolding computing
+callSamples =
+    record {
+      begun-stopped = refl;
+      begun-shows = refl;
+      begun-parts = refl;
+      finished-complete = refl;
+      finished-tries = refl;
+      finished-shows = refl;
+      finished-parts = refl;
+      short-parts = refl;
+      no-state = refl;
+      state-first = refl;
+      budget-taken = refl;
+      budget-refused = refl;
+      no-rows = refl;
+      rows-taken = refl;
+      rows-refused = refl;
+      cells-refused = refl;
+      short-list = refl;
+      off-matrix = refl;
+      out-of-order = refl;
+      repeated = refl;
+      cap-refused = refl;
+      percent-taken = refl;
+      percent-refused = refl;
+      percent-too-big = refl;
+    }

@@ -71,6 +71,11 @@ fresh m n nonzeros cap (suc k) =
       trail = markNumber (To Zero) ∷ [];
     }
 
+-- no marks
+unfoldable pub isEmpty : List ℕ → Bool
+isEmpty [] = true
+isEmpty (x ∷ xs) = false
+
 -- some mark is 0 or 1
 unfoldable pub givesPart : List ℕ → Bool
 givesPart [] = false
@@ -95,11 +100,6 @@ advance (suc (suc x) ∷ xs) = advance xs
 unfoldable pub cuts : List ℕ → ℕ
 cuts [] = 0
 cuts (x ∷ xs) = bit (eqb x (markNumber Cut)) + cuts xs
-
--- no marks
-unfoldable pub isEmpty : List ℕ → Bool
-isEmpty [] = true
-isEmpty (x ∷ xs) = false
 
 -- one try more, after which this trail is the next; the search is complete if it is empty
 unfoldable pub tried : Record → List ℕ → Record
