@@ -70,6 +70,12 @@ unfolding _and_
 and-cases true b h = inr h
 and-cases false b h = inl refl
 
+-- of two tests that do not both pass, of which the first passes, the second fails
+pub and-other : (a b : Bool) → a and b ≡ false → a ≡ true → b ≡ false
+unfolding _and_
+and-other true b h p = h
+and-other false b h p = clash p refl
+
 pub or-left : {a : Bool} (b : Bool) → a ≡ true → a or b ≡ true
 unfolding _or_
 or-left b h = rw h

@@ -2,3 +2,5 @@ pub mod Joined
 pub mod Summed
 pub mod Counted
 pub mod Charged
+pub mod Grouped
+pub mod Found

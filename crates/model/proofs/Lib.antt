@@ -1,1 +1,4 @@
-pub mod Volume
+pub mod Split
+pub mod Bound
+pub mod Matching
+pub mod Walk

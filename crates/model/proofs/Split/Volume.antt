@@ -8,26 +8,14 @@ use native.Mathlib.Omega.{arith}
 use borrow.Author.Tests.{ltb-true, lt-ltb}
 use Rattle.counting.specs.Tests.{_and_, bit}
 use Rattle.counting.specs.Sums.{sum, count, any}
-use Rattle.counting.proofs.Joined.{clash, by-test, fails, and-intro, and-left, and-right, bit-false}
+use Rattle.counting.proofs.Joined.{clash, fails, and-left, and-right, bit-false}
 use Rattle.counting.proofs.Summed.{sum-eq, sum-add}
-use Rattle.counting.proofs.Counted.{count-some, witness, any-intro, any-elim}
+use Rattle.counting.proofs.Counted.{count-some, witness, any-elim}
 use Rattle.model.specs.declared.Part.{Part}
 use Rattle.model.specs.declared.Part.the-variants.{Zero, One}
 use Rattle.model.specs.Pattern.{Pattern, lines, on, lineCount, nonempty, lineTotal}
 use Rattle.model.specs.Split.{Split, samePart, holds, isCut, partsOn, volume}
-
--- a part is itself
-pub same-part : (p : Part) → samePart p p ≡ true
-unfolding samePart
-same-part Zero = refl
-same-part One = refl
-
-pub same-part-is : (p q : Part) → samePart p q ≡ true → p ≡ q
-unfolding samePart
-same-part-is Zero Zero h = refl
-same-part-is Zero One h = clash h refl
-same-part-is One Zero h = clash h refl
-same-part-is One One h = refl
+use Rattle.model.proofs.Split.Parts.{same-is, same-of-eq, holds-intro}
 
 -- a line that holds a nonzero is one with nonzeros
 pub on-nonempty : (P : Pattern) (l t : ℕ) → t < P .size → on P l t ≡ true → nonempty P l ≡ true
@@ -39,19 +27,6 @@ pub nonempty-on : (P : Pattern) (l : ℕ) → nonempty P l ≡ true → (t : ℕ
 unfolding nonempty lineCount
 nonempty-on P l h = witness (on P l) (P .size) (ltb-true 0 (lineCount P l) h)
 
--- a nonzero's part holds some of each of its lines
-pub holds-intro :
-    (P : Pattern) (σ : Split) (p : Part) (l t : ℕ) →
-    t < P .size → on P l t ≡ true → σ t ≡ p → holds P σ p l ≡ true
-unfolding holds
-holds-intro P σ p l t b h e =
-    any-intro
-    (λ s. on P l s and samePart p (σ s))
-    (P .size)
-    t
-    b
-    (and-intro h (ap (samePart p) e ∙ same-part p))
-
 -- a part that holds some of a line has a nonzero of it
 pub holds-elim :
     (P : Pattern) (σ : Split) (p : Part) (l : ℕ) →
@@ -62,7 +37,7 @@ holds-elim P σ p l h =
       w .0,
       w .1,
       and-left (on P l (w .0)) (samePart p (σ (w .0))) (w .2),
-      sym (same-part-is p (σ (w .0)) (and-right (on P l (w .0)) (samePart p (σ (w .0))) (w .2))),
+      sym (same-is p (σ (w .0)) (and-right (on P l (w .0)) (samePart p (σ (w .0))) (w .2))),
     )
 
 -- a line with nonzeros is held by a part, and no other line is
@@ -77,8 +52,8 @@ nonempty-held P σ l h = let w = nonempty-on P l h in by-part (σ (w .0)) refl
     by-part :
         (p : Part) → σ (nonempty-on P l h .0) ≡ p →
         (holds P σ Zero l ≡ true) ⊎ (holds P σ One l ≡ true)
-    by-part Zero e = let w = nonempty-on P l h in inl (holds-intro P σ Zero l (w .0) (w .1) (w .2) e)
-    by-part One e = let w = nonempty-on P l h in inr (holds-intro P σ One l (w .0) (w .1) (w .2) e)
+    by-part Zero e = let w = nonempty-on P l h in inl (holds-intro P σ Zero l (w .0) (w .1) (w .2) (same-of-eq Zero (σ (w .0)) e))
+    by-part One e = let w = nonempty-on P l h in inr (holds-intro P σ One l (w .0) (w .1) (w .2) (same-of-eq One (σ (w .0)) e))
 
 -- the parts on a line: one if it has nonzeros, and one more if it is cut
 parts-by-test :

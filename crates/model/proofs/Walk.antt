@@ -1,0 +1,9 @@
+pub mod Sound
+pub mod Steps
+pub mod Legal
+pub mod Open
+pub mod Covers
+pub mod Exact
+pub mod Left
+pub mod Ending
+pub mod Reached

@@ -1,0 +1,106 @@
+-- Every state that a walk reaches is one that is not refused.
+-- Assumes nothing.
+use mathlib.Core.Bool.{Bool, true, false, not}
+use mathlib.Core.List.{List}
+use mathlib.Core.Option.{Option, some, none}
+use mathlib.Core.Path.{_≡_, refl, sym, ap}
+use Prim.Native.Nat.{ℕ, zero, suc, _*_, _≤_}
+use native.Mathlib.Omega.{arith}
+use borrow.Author.Tests.{le-leb, eq-eqb}
+use Rattle.model.specs.Limits.{capLimit, triesLimit}
+use Rattle.model.specs.Walk.{Record, Rules, fresh, isEmpty, tried, improved, tryOnce}
+use Rattle.model.specs.State.{trailFine, bestFine, stateFine}
+use Rattle.counting.proofs.Joined.{and-intro, no-way}
+use Rattle.model.proofs.Walk.Sound.{Sound, empty-valid}
+use Rattle.model.proofs.Walk.Steps.{after, try-keeps, walk-keeps}
+use Rattle.model.proofs.Walk.Legal.{Legal, Orderly, BestIs, walk-orderly}
+use Rattle.model.proofs.Walk.Exact.{Exact, complete-exact}
+use Rattle.model.proofs.Walk.Ending.{tries-within}
+
+-- a record for this m, n, number of nonzeros and cap
+pub record For (m n nonzeros cap : ℕ) (r : Record) : Type 0 where
+  pub rows : r .m ≡ m
+  pub columns : r .n ≡ n
+  pub size : r .nonzeros ≡ nonzeros
+  pub limit : r .cap ≡ cap
+
+-- a fresh record is for what it is made of
+fresh-for : (m n nonzeros cap k : ℕ) → For m n nonzeros cap (fresh m n nonzeros cap k)
+unfolding fresh
+fresh-for m n nonzeros cap zero = record { rows = refl; columns = refl; size = refl; limit = refl }
+fresh-for m n nonzeros cap (suc k) = record { rows = refl; columns = refl; size = refl; limit = refl }
+
+-- a try keeps what the record is for
+try-for : (R : Rules) {m n nonzeros cap : ℕ} (r : Record)
+    → For m n nonzeros cap r → For m n nonzeros cap (tryOnce R r)
+unfolding tried improved
+try-for R {m} {n} {nonzeros} {cap} r h =
+    try-keeps R r (λ s. For m n nonzeros cap s)
+    (λ up room. record { rows = h .rows; columns = h .columns; size = h .size; limit = h .limit })
+    (λ up long. record { rows = h .rows; columns = h .columns; size = h .size; limit = h .limit })
+    (λ down. record { rows = h .rows; columns = h .columns; size = h .size; limit = h .limit })
+
+-- a walk keeps m, n, the number of nonzeros and the cap
+pub walk-for : (R : Rules) (m n nonzeros cap tries : ℕ) → For m n nonzeros cap (after R m n nonzeros cap tries)
+walk-for R m n nonzeros cap tries =
+    walk-keeps R (λ s. For m n nonzeros cap s) (λ r going h. try-for R r h) tries _ (fresh-for m n nonzeros cap (R .k))
+
+-- a legal trail, empty exactly if complete, is fine
+trail-fine : (R : Rules) (complete : Bool) (τ : List ℕ) → Legal R τ → complete ≡ isEmpty τ → trailFine R complete τ ≡ true
+unfolding trailFine
+trail-fine R true τ l ended = sym ended
+trail-fine R false τ l ended =
+    and-intro (and-intro (and-intro (and-intro (ap not (sym ended)) (le-leb _ _ (l .within))) (l .marks)) (l .starts)) (l .before)
+
+-- a best marking as it should be is fine, if a complete search has one
+best-fine : (R : Rules) (o : Option (List ℕ)) (count : ℕ) (complete : Bool) → BestIs R o count
+    → (o ≡ none → complete ≡ false) → bestFine R o count complete ≡ true
+unfolding bestFine
+best-fine R (some τ) count complete b found =
+    and-intro (and-intro (and-intro (eq-eqb _ _ (b .0 .long)) (b .0 .marks)) (b .0 .fits)) (eq-eqb _ _ (b .1))
+best-fine R none count complete b found = and-intro (eq-eqb _ _ b) (ap not (found refl))
+
+-- an orderly record within the limits is not refused, if it has a best marking where it is complete
+pub orderly-fine : {R : Rules} {m n nonzeros cap : ℕ} (r : Record) → For m n nonzeros cap r → Orderly R r
+    → nonzeros ≤ 2 * cap → cap ≤ capLimit → r .tries ≤ triesLimit → (r .best ≡ none → r .complete ≡ false)
+    → stateFine R m n nonzeros r ≡ true
+unfolding stateFine
+orderly-fine {R} {m} {n} {nonzeros} {cap} r h o enough small few found =
+    and-intro
+    (and-intro
+    (and-intro
+    (and-intro
+    (and-intro
+    (and-intro (and-intro (eq-eqb _ _ (h .rows)) (eq-eqb _ _ (h .columns))) (eq-eqb _ _ (h .size)))
+    (le-leb nonzeros (2 * r .cap) (omega (arith, h .limit))))
+    (le-leb (r .cap) capLimit (omega (arith, h .limit))))
+    (le-leb (r .tries) triesLimit few))
+    (trail-fine R (r .complete) (r .trail) (o .legal) (o .ended)))
+    (best-fine R (r .best) (r .bestCount) (r .complete) (o .found) found)
+
+-- an exact result has a best marking
+exact-found : {R : Rules} {r : Record} {A : Type 0} → Exact R r → r .best ≡ none → A
+exact-found {R} {r} e missing = let z : _≡_ {A = ℕ} 0 1 = cc (e .best) in no-way (omega arith)
+
+-- a walk without a best marking is not complete
+pub none-going : {R : Rules} (m n nonzeros cap tries : ℕ) → Sound R
+    → after R m n nonzeros cap tries .best ≡ none → after R m n nonzeros cap tries .complete ≡ false
+none-going {R} m n nonzeros cap tries S missing = go (after R m n nonzeros cap tries .complete) refl
+  where
+    go : (b : Bool) → after R m n nonzeros cap tries .complete ≡ b → after R m n nonzeros cap tries .complete ≡ false
+    go true done = exact-found (complete-exact m n nonzeros cap tries S done) missing
+    go false going = going
+
+-- a state that a walk reaches is not refused
+pub reached-fine : {R : Rules} (m n nonzeros cap tries : ℕ) → Sound R
+    → nonzeros ≤ 2 * cap → cap ≤ capLimit → tries ≤ triesLimit
+    → stateFine R m n nonzeros (after R m n nonzeros cap tries) ≡ true
+reached-fine {R} m n nonzeros cap tries S enough small few =
+    let made = tries-within R m n nonzeros cap tries in
+    orderly-fine (after R m n nonzeros cap tries)
+    (walk-for R m n nonzeros cap tries)
+    (walk-orderly R m n nonzeros cap tries (empty-valid S))
+    enough
+    small
+    (omega arith)
+    (none-going m n nonzeros cap tries S)
