@@ -1,0 +1,42 @@
+// Reading a list of nonzeros. Each function takes any values: past the end of a list every byte is 0.
+ghost use mathlib.Core.Path.{_≡_};
+ghost use Prim.Native.Nat.{_<_};
+ghost use lib.ListN.{getD};
+ghost use Rattle.model.specs.Pattern.{rowIn, columnIn};
+
+// A byte as an index.
+pub fn wide(x: u8) -> usize
+    ensures { λ r. ⌜ (r ≡ x) × (r < 256) ⌝ }
+{
+    x as usize
+}
+
+// A number of two bytes as an index.
+pub fn wide16(x: u16) -> usize
+    ensures { λ r. ⌜ (r ≡ x) × (r < 65536) ⌝ }
+{
+    x as usize
+}
+
+// The byte at a place of a list.
+pub fn byte_at(list: &[u8], at: usize) -> u8
+    ensures { λ r. ⌜ r ≡ getD (now (list .entry)) at 0 ⌝ }
+{
+    if at < list.len() { list[at] } else { 0 }
+}
+
+// The row of nonzero t.
+pub fn row_of(list: &[u8], t: u16) -> u8
+    ensures { λ r. ⌜ r ≡ rowIn (now (list .entry)) t ⌝ }
+{
+    let at = wide16(t);
+    byte_at(list, 2 * at)
+}
+
+// The column of nonzero t.
+pub fn column_of(list: &[u8], t: u16) -> u8
+    ensures { λ r. ⌜ r ≡ columnIn (now (list .entry)) t ⌝ }
+{
+    let at = wide16(t);
+    byte_at(list, 2 * at + 1)
+}
