@@ -1,8 +1,12 @@
 pub mod Conditions
-pub mod Agreed
+pub mod Validity
+pub mod Division
 pub mod Chosen
 pub mod Cover
 pub mod Greedy
 pub mod Stake
 pub mod Struck
+pub mod BelowDivision
 pub mod BoundSound
+pub mod Extended
+pub mod WithoutL4

@@ -2,3 +2,5 @@ pub mod Split
 pub mod Bound
 pub mod Matching
 pub mod Walk
+pub mod Order
+pub mod Theorems

@@ -21,10 +21,10 @@ use Rattle.model.specs.declared.ShowAnswer.{ShowAnswer}
 use Rattle.model.specs.declared.ShowAnswer.the-variants as show-answer
 use Rattle.model.specs.Limits.{lineLimit, nonzeroLimit, capLimit, percentLimit, budgetLimit, triesLimit}
 use Rattle.model.specs.Refusal.{refusalCode, refuse, _then_}
-use Rattle.model.specs.Pattern.{Pattern, entryBytes, rowIn, columnIn, patternOf, lineTotal}
+use Rattle.model.specs.Pattern.{Pattern, entryBytes, rowIn, columnIn, patternOf}
 use Rattle.model.specs.Split.{Split, partNumber, volume, capFromPercent}
 use Rattle.model.specs.Marking.{marking}
-use Rattle.model.specs.Walk.{Record, Rules, rulesOf, fresh, walk, floor, shownSplit}
+use Rattle.model.specs.Walk.{Record, rulesOf, freshOf, walk, floor, shownSplit}
 use Rattle.model.specs.State.{recordOf, searchOf, stateFine}
 
 -- outside the range 1 to the limit
@@ -98,10 +98,6 @@ capAfter (Refused word place) nonzeros percent = cap-answer.Refused word place
 -- what the cap from e answers
 unfoldable pub capCall : ℕ → ℕ → CapAnswer
 capCall nonzeros percent = capAfter (capVerdict nonzeros percent) nonzeros percent
-
--- the fresh record of a pattern
-unfoldable pub freshOf : Pattern → ℕ → Record
-freshOf P cap = fresh (P .m) (P .n) (P .size) cap (lineTotal P)
 
 -- the record that a refused opening leaves, with nothing in it
 unfoldable pub noRecord : Record

@@ -25,10 +25,10 @@ use Rattle.model.specs.Pattern.{Pattern, rowIn, columnIn, patternOf, lin
 use Rattle.model.specs.Split.{Split, samePart, holds, isCut, partsOn, volume, load, capFromPercent}
 use Rattle.model.specs.Marking.{Marking, precedes, place, markAt, marking, takes, taken, valid, touched, conditionFor, condition}
 use Rattle.model.specs.Bound.{saysCut, saysTorn, saysLeaning, leans, L1, L2, L3, L4, untaken, atStake, untakenOn, falling, leaningCounts, strikes, struck, conflict, mostChosen, bound}
-use Rattle.model.specs.Walk.{Record, Rules, rulesOf, fresh, givesPart, oneAllowed, afterZero, advance, cuts, isEmpty, tried, improved, stands, outcome, tryOnce, step, walk, putLater, beginningsLater, openMarkings, leastBound, floor, filled, shownSplit}
+use Rattle.model.specs.Walk.{Record, Rules, rulesOf, fresh, freshOf, givesPart, oneAllowed, afterZero, advance, cuts, isEmpty, tried, improved, stands, outcome, tryOnce, step, walk, walked, putLater, beginningsLater, openMarkings, leastBound, floor, filled, shownSplit}
 use Rattle.model.specs.Refusal.{refusalCode, verdictCode, refuse, _then_}
-use Rattle.model.specs.State.{stack, bestIn, recordOf, arrayOf, trailOf, isFound, bestOr, searchOf, areMarks, startsWithZero, beginningsValid, trailFine, bestFine, stateFine}
-use Rattle.model.specs.Calls.{outside, sizesVerdict, rises, entryVerdict, entriesVerdict, listVerdict, openVerdict, runVerdict, showVerdict, capVerdict, capAfter, capCall, freshOf, noRecord, openedAfter, openCall, ended, ranRecord, ranAfter, runCall, shownFrom, shown, partBytes, shownParts, shownAfter, partsAfter, showCall, showParts}
+use Rattle.model.specs.State.{stack, marksIn, bestIn, recordOf, arrayOf, trailOf, isFound, bestOr, searchOf, areMarks, startsWithZero, beginningsValid, trailFine, bestFine, stateFine}
+use Rattle.model.specs.Calls.{outside, sizesVerdict, rises, entryVerdict, entriesVerdict, listVerdict, openVerdict, runVerdict, showVerdict, capVerdict, capAfter, capCall, noRecord, openedAfter, openCall, ended, ranRecord, ranAfter, runCall, shownFrom, shown, partBytes, shownParts, shownAfter, partsAfter, showCall, showParts}
 
 -- part p for nonzero t, and another split's parts for the others
 unfoldable pub withPart : Split → ℕ → Part → Split
@@ -44,10 +44,6 @@ leastAmong P cap (suc t) σ =
 -- least volume of a pattern under a cap
 unfoldable pub leastVolume : Pattern → ℕ → ℕ
 leastVolume P cap = leastAmong P cap (P .size) (λ t. Zero)
-
--- the walk of a pattern and a cap, from fresh
-unfoldable pub walked : Pattern → ℕ → ℕ → Record
-walked P cap tries = walk (rulesOf P cap) tries (freshOf P cap)
 
 -- how the walk stands after so many tries, or fewer if it is complete: complete or not, its tries, and what it shows
 unfoldable pub standsAt : Pattern → ℕ → ℕ → Bool × ℕ × ShowAnswer
@@ -113,7 +109,7 @@ cornerMarking l = getD (3 ∷ 1 ∷ 0 ∷ 3 ∷ []) l 3
 
 -- to unfold this is to unfold every definition that a sample computes with
 computing : Type 0
-unfolding _and_ _or_ pick bit sum any rowIn columnIn patternOf lines rowLine columnLine on lineCount nonempty lineTotal samePart holds isCut partsOn volume load capFromPercent precedes place markAt marking takes taken valid touched conditionFor condition saysCut saysTorn saysLeaning leans L1 L2 L3 L4 untaken atStake untakenOn falling leaningCounts strikes struck conflict mostChosen bound rulesOf fresh givesPart oneAllowed afterZero advance cuts isEmpty tried improved stands outcome tryOnce step walk putLater beginningsLater openMarkings leastBound floor filled shownSplit refusalCode verdictCode refuse _then_ stack bestIn recordOf arrayOf trailOf isFound bestOr searchOf areMarks startsWithZero beginningsValid trailFine bestFine stateFine outside sizesVerdict rises entryVerdict entriesVerdict listVerdict openVerdict runVerdict showVerdict capVerdict capAfter capCall freshOf noRecord openedAfter openCall ended ranRecord ranAfter runCall shownFrom shown partBytes shownParts shownAfter partsAfter showCall showParts withPart leastAmong leastVolume walked standsAt showsParts
+unfolding _and_ _or_ pick bit sum any rowIn columnIn patternOf lines rowLine columnLine on lineCount nonempty lineTotal samePart holds isCut partsOn volume load capFromPercent precedes place markAt marking takes taken valid touched conditionFor condition saysCut saysTorn saysLeaning leans L1 L2 L3 L4 untaken atStake untakenOn falling leaningCounts strikes struck conflict mostChosen bound rulesOf fresh givesPart oneAllowed afterZero advance cuts isEmpty tried improved stands outcome tryOnce step walk putLater beginningsLater openMarkings leastBound floor filled shownSplit refusalCode verdictCode refuse _then_ stack marksIn bestIn recordOf arrayOf trailOf isFound bestOr searchOf areMarks startsWithZero beginningsValid trailFine bestFine stateFine outside sizesVerdict rises entryVerdict entriesVerdict listVerdict openVerdict runVerdict showVerdict capVerdict capAfter capCall freshOf noRecord openedAfter openCall ended ranRecord ranAfter runCall shownFrom shown partBytes shownParts shownAfter partsAfter showCall showParts withPart leastAmong leastVolume walked standsAt showsParts
 computing = Unit
 
 -- the samples marked P

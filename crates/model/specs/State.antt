@@ -15,14 +15,18 @@ use Rattle.model.specs.Limits.{lineLimit, capLimit, triesLimit}
 use Rattle.model.specs.Marking.{markNumber}
 use Rattle.model.specs.Walk.{Record, Rules, oneAllowed, cuts, isEmpty}
 
--- the first d marks of an array, as a marking
-unfoldable pub stack : List ℕ → ℕ → List ℕ
-stack marks zero = []
-stack marks (suc d) = getD marks d 0 ∷ stack marks d
+-- the first d of some marks, as a marking
+unfoldable pub stack : (ℕ → ℕ) → ℕ → List ℕ
+stack mark zero = []
+stack mark (suc d) = mark d ∷ stack mark d
+
+-- the marking that a trail of the code holds
+unfoldable pub marksIn : Trail → List ℕ
+marksIn trail = stack (λ i. getD (trail .marks) i 0) (trail .len)
 
 -- a best marking, where there is one
 unfoldable pub bestIn : Bool → Trail → Option (List ℕ)
-bestIn true best = some (stack (best .marks) (best .len))
+bestIn true best = some (marksIn best)
 bestIn false best = none
 
 -- the record that a search holds
@@ -37,7 +41,7 @@ recordOf s =
       bestCount = s .«best_count»;
       best = bestIn (s .found) (s .best);
       complete = s .complete;
-      trail = stack (s .trail .marks) (s .trail .len);
+      trail = marksIn (s .trail);
     }
 
 -- a marking's marks in an array with room for every line, 0 past its length

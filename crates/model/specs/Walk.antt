@@ -71,6 +71,10 @@ fresh m n nonzeros cap (suc k) =
       trail = markNumber (To Zero) ∷ [];
     }
 
+-- fresh, for a pattern and a cap: m, n, N and cap as the opening was given them
+unfoldable pub freshOf : Pattern → ℕ → Record
+freshOf P cap = fresh (P .m) (P .n) (P .size) cap (lineTotal P)
+
 -- no marks
 unfoldable pub isEmpty : List ℕ → Bool
 isEmpty [] = true
@@ -153,6 +157,10 @@ step R r = pick (r .complete) r (tryOnce R r)
 unfoldable pub walk : Rules → ℕ → Record → Record
 walk R zero r = r
 walk R (suc n) r = step R (walk R n r)
+
+-- the walk of a pattern and a cap after n tries from a fresh search
+unfoldable pub walked : Pattern → ℕ → ℕ → Record
+walked P cap n = walk (rulesOf P cap) n (freshOf P cap)
 
 -- a beginning with its last mark put later by allowed advances (up to cut)
 unfoldable pub putLater : List ℕ → List (List ℕ)

@@ -1,9 +1,11 @@
 -- Laws of the condition of a line: what each kind tells of the line's mark and nonzeros, and that no line is of two kinds.
 -- Assumes nothing.
 use mathlib.Core.Bool.{Bool, true, false}
-use mathlib.Core.Path.{_≡_, refl}
+use mathlib.Core.Path.{_≡_, refl, sym, _∙_}
 use Prim.Native.Nat.{ℕ, zero, suc, _≤_}
 use native.Mathlib.Omega.{arith}
+use lib.Dec.{eqb}
+use borrow.Author.Tests.{eqb-true, ne-eqb}
 use Rattle.counting.proofs.Joined.{clash}
 use Rattle.model.specs.declared.Part.{Part}
 use Rattle.model.specs.declared.Part.the-variants.{Zero, One}
@@ -15,20 +17,29 @@ use Rattle.model.specs.Split.{other, samePart}
 use Rattle.model.specs.Marking.{Marking, markNumber, unmarked, touched, conditionFor, condition}
 use Rattle.model.specs.Bound.{saysCut, saysTorn, saysLeaning, leans}
 
-cut-for : (x : ℕ) (a b : Bool) → saysCut (conditionFor x a b) ≡ true → x ≡ 2
+-- an unmarked line does not have mark cut
+past-cut : (x : ℕ) → false ≡ eqb (suc (suc (suc x))) (markNumber Cut)
+past-cut x = sym (ne-eqb (suc (suc (suc x))) (markNumber Cut) (λ e. omega arith))
+
+-- marked cut, for a mark and two tests
+cut-for : (x : ℕ) (a b : Bool) → saysCut (conditionFor x a b) ≡ eqb x (markNumber Cut)
 unfolding saysCut conditionFor
-cut-for zero a b h = clash h refl
-cut-for (suc zero) a b h = clash h refl
-cut-for (suc (suc zero)) a b h = refl
-cut-for (suc (suc (suc x))) true true h = clash h refl
-cut-for (suc (suc (suc x))) true false h = clash h refl
-cut-for (suc (suc (suc x))) false true h = clash h refl
-cut-for (suc (suc (suc x))) false false h = clash h refl
+cut-for zero a b = refl
+cut-for (suc zero) a b = refl
+cut-for (suc (suc zero)) a b = refl
+cut-for (suc (suc (suc x))) true true = past-cut x
+cut-for (suc (suc (suc x))) true false = past-cut x
+cut-for (suc (suc (suc x))) false true = past-cut x
+cut-for (suc (suc (suc x))) false false = past-cut x
+
+-- a line is marked cut just where its mark is cut
+pub cut-is : (P : Pattern) (μ : Marking) (l : ℕ) → saysCut (condition P μ l) ≡ eqb (μ l) (markNumber Cut)
+unfolding condition
+cut-is P μ l = cut-for (μ l) (touched P μ Zero l) (touched P μ One l)
 
 -- a line that is marked cut has mark cut
 pub cut-marked : (P : Pattern) (μ : Marking) (l : ℕ) → saysCut (condition P μ l) ≡ true → μ l ≡ markNumber Cut
-unfolding condition
-cut-marked P μ l h = cut-for (μ l) (touched P μ Zero l) (touched P μ One l) h
+cut-marked P μ l h = eqb-true (μ l) (markNumber Cut) (sym (cut-is P μ l) ∙ h)
 
 -- an unmarked line, with nonzeros taken by 0 and by 1 as two tests tell
 record FreeLine (x : ℕ) (a b a′ b′ : Bool) : Type 0 where

@@ -15,11 +15,10 @@ use Rattle.counting.proofs.Charged.{charge}
 use Rattle.model.specs.declared.Part.{Part}
 use Rattle.model.specs.declared.Part.the-variants.{Zero, One}
 use Rattle.model.specs.Pattern.{Pattern, Inside, lines, rowLine, columnLine, on}
-use Rattle.model.specs.Split.{Split, samePart, isCut, load}
-use Rattle.model.specs.Marking.{Marking, Agrees, takes, taken}
+use Rattle.model.specs.Marking.{Marking, takes, taken}
 use Rattle.model.specs.Bound.{leans, untaken, untakenOn, atStake}
 use Rattle.model.proofs.Split.Lines.{on-row, on-column, on-line-in}
-use Rattle.model.proofs.Bound.Agreed.{taken-in, leaning-cut}
+use Rattle.model.proofs.Bound.Division.{Division, leaning-cut}
 
 -- a nonzero taken by p is not untaken
 pub taken-not-untaken : (P : Pattern) (μ : Marking) (p : Part) (t : ℕ) → takes P μ p t ≡ true → untaken P μ t ≡ false
@@ -43,60 +42,60 @@ taken-not-staked P μ p t h =
     and-fails-left (leans P μ p (rowLine P t) or leans P μ p (columnLine P t)) (taken-not-untaken P μ p t h)
 
 -- line l leans to p and is cut
-unfoldable pub leansCut : Pattern → Marking → Split → Part → ℕ → Bool
-leansCut P μ σ p l = leans P μ p l and isCut P σ l
+unfoldable pub leansCut : Pattern → Marking → (ℕ → Bool) → Part → ℕ → Bool
+leansCut P μ cut p l = leans P μ p l and cut l
 
 -- such a line leans to p
-pub cut-leans : (P : Pattern) (μ : Marking) (σ : Split) (p : Part) (l : ℕ) → leansCut P μ σ p l ≡ true → leans P μ p l ≡ true
+pub cut-leans : (P : Pattern) (μ : Marking) (cut : ℕ → Bool) (p : Part) (l : ℕ) → leansCut P μ cut p l ≡ true → leans P μ p l ≡ true
 unfolding leansCut
-cut-leans P μ σ p l h = and-left (leans P μ p l) (isCut P σ l) h
+cut-leans P μ cut p l h = and-left (leans P μ p l) (cut l) h
 
 -- such a line is cut
-pub cut-leans-cut : (P : Pattern) (μ : Marking) (σ : Split) (p : Part) (l : ℕ) → leansCut P μ σ p l ≡ true → isCut P σ l ≡ true
+pub cut-leans-cut : (P : Pattern) (μ : Marking) (cut : ℕ → Bool) (p : Part) (l : ℕ) → leansCut P μ cut p l ≡ true → cut l ≡ true
 unfolding leansCut
-cut-leans-cut P μ σ p l h = and-right (leans P μ p l) (isCut P σ l) h
+cut-leans-cut P μ cut p l h = and-right (leans P μ p l) (cut l) h
 
 -- a line that leans to p and is cut pays for its untaken nonzeros
 line-pays :
-    (P : Pattern) (μ : Marking) (σ : Split) (p : Part) (l : ℕ) →
-    count (λ t. leansCut P μ σ p l and (on P l t and untaken P μ t)) (P .size)
-    ≤ untakenOn P μ l * bit (leansCut P μ σ p l)
+    (P : Pattern) (μ : Marking) (cut : ℕ → Bool) (p : Part) (l : ℕ) →
+    count (λ t. leansCut P μ cut p l and (on P l t and untaken P μ t)) (P .size)
+    ≤ untakenOn P μ l * bit (leansCut P μ cut p l)
 unfolding untakenOn
-line-pays P μ σ p l =
+line-pays P μ cut p l =
     by-test
-    (leansCut P μ σ p l)
-    (λ e. rw (bit-true (leansCut P μ σ p l) e) (omega (
+    (leansCut P μ cut p l)
+    (λ e. rw (bit-true (leansCut P μ cut p l) e) (omega (
       arith,
       count-mono
-          (λ t. leansCut P μ σ p l and (on P l t and untaken P μ t))
+          (λ t. leansCut P μ cut p l and (on P l t and untaken P μ t))
           (λ t. on P l t and untaken P μ t)
           (P .size)
-          (λ t b h. and-right (leansCut P μ σ p l) (on P l t and untaken P μ t) h),
+          (λ t b h. and-right (leansCut P μ cut p l) (on P l t and untaken P μ t) h),
     )))
     (λ e. omega (
       arith,
       count-none
-          (λ t. leansCut P μ σ p l and (on P l t and untaken P μ t))
+          (λ t. leansCut P μ cut p l and (on P l t and untaken P μ t))
           (P .size)
           (λ t b. and-fails-left (on P l t and untaken P μ t) e),
     ))
 
-module _ (P : Pattern) (μ : Marking) (σ : Split) (p : Part) (i : Inside P) (agrees : Agrees P μ σ) where
+module _ {P : Pattern} {cap : ℕ} {μ : Marking} {gives : Part → ℕ → Bool} {cut : ℕ → Bool} (i : Inside P) (d : Division P cap μ gives cut) (p : Part) where
   -- taken nonzeros and those at stake that stay in p are all in p
-  kept-fits : taken P μ p + count (λ t. stakes P μ p t and samePart p (σ t)) (P .size) ≤ load P σ p
-  unfolding taken load
+  kept-fits : taken P μ p + count (λ t. stakes P μ p t and gives p t) (P .size) ≤ count (gives p) (P .size)
+  unfolding taken
   kept-fits =
       omega (
         arith,
-        sum-add (λ t. bit (takes P μ p t)) (λ t. bit (stakes P μ p t and samePart p (σ t))) (P .size),
+        sum-add (λ t. bit (takes P μ p t)) (λ t. bit (stakes P μ p t and gives p t)) (P .size),
         sum-le
-            (λ t. bit (takes P μ p t) + bit (stakes P μ p t and samePart p (σ t)))
-            (λ t. bit (samePart p (σ t)))
+            (λ t. bit (takes P μ p t) + bit (stakes P μ p t and gives p t))
+            (λ t. bit (gives p t))
             (P .size)
             each,
       )
     where
-      each : (t : ℕ) → t < P .size → bit (takes P μ p t) + bit (stakes P μ p t and samePart p (σ t)) ≤ bit (samePart p (σ t))
+      each : (t : ℕ) → t < P .size → bit (takes P μ p t) + bit (stakes P μ p t and gives p t) ≤ bit (gives p t)
       each t b =
           by-test
           (takes P μ p t)
@@ -104,37 +103,37 @@ module _ (P : Pattern) (μ : Marking) (σ : Split) (p : Part) (i : Inside P) (ag
             arith,
             bit-le-one (takes P μ p t),
             bit-false
-                (stakes P μ p t and samePart p (σ t))
-                (and-fails-left (samePart p (σ t)) (taken-not-staked P μ p t e)),
-            bit-true (samePart p (σ t)) (taken-in P μ σ agrees p t b e),
+                (stakes P μ p t and gives p t)
+                (and-fails-left (gives p t) (taken-not-staked P μ p t e)),
+            bit-true (gives p t) (d .taken-given p t b e),
           ))
           (λ e. omega (
             arith,
             bit-false (takes P μ p t) e,
             bit-mono
-                (stakes P μ p t and samePart p (σ t))
-                (samePart p (σ t))
-                (λ h. and-right (stakes P μ p t) (samePart p (σ t)) h),
+                (stakes P μ p t and gives p t)
+                (gives p t)
+                (λ h. and-right (stakes P μ p t) (gives p t) h),
           ))
 
   -- an untaken nonzero outside p, on a line that leans to p
   lost-on-line :
-      (t : ℕ) → t < P .size → untaken P μ t ≡ true → samePart p (σ t) ≡ false →
+      (t : ℕ) → t < P .size → untaken P μ t ≡ true → gives p t ≡ false →
       (l : ℕ) → on P l t ≡ true → leans P μ p l ≡ true →
-      1 ≤ count (λ l. leansCut P μ σ p l and (on P l t and untaken P μ t)) (lines P)
+      1 ≤ count (λ l. leansCut P μ cut p l and (on P l t and untaken P μ t)) (lines P)
   unfolding leansCut
   lost-on-line t b u away l h e =
       count-some
-      (λ l. leansCut P μ σ p l and (on P l t and untaken P μ t))
+      (λ l. leansCut P μ cut p l and (on P l t and untaken P μ t))
       (lines P)
       l
       (on-line-in P l t i b h)
-      (and-intro (and-intro e (leaning-cut P μ σ agrees p l t b h e away)) (and-intro h u))
+      (and-intro (and-intro e (leaning-cut d p l t (on-line-in P l t i b h) b h e away)) (and-intro h u))
 
   -- a nonzero at stake that is not in p is untaken on a line that leans to p and is cut
   lost-on :
-      (t : ℕ) → t < P .size → stakes P μ p t and not (samePart p (σ t)) ≡ true →
-      1 ≤ count (λ l. leansCut P μ σ p l and (on P l t and untaken P μ t)) (lines P)
+      (t : ℕ) → t < P .size → stakes P μ p t and not (gives p t) ≡ true →
+      1 ≤ count (λ l. leansCut P μ cut p l and (on P l t and untaken P μ t)) (lines P)
   unfolding stakes
   lost-on t b h =
       ⊎-elim
@@ -146,47 +145,47 @@ module _ (P : Pattern) (μ : Marking) (σ : Split) (p : Part) (i : Inside P) (ag
       (and-right (untaken P μ t) (leans P μ p (rowLine P t) or leans P μ p (columnLine P t)) staked))
     where
       staked : stakes P μ p t ≡ true
-      staked = and-left (stakes P μ p t) (not (samePart p (σ t))) h
+      staked = and-left (stakes P μ p t) (not (gives p t)) h
 
       untaken-t : untaken P μ t ≡ true
       untaken-t = and-left (untaken P μ t) (leans P μ p (rowLine P t) or leans P μ p (columnLine P t)) staked
 
-      away : samePart p (σ t) ≡ false
-      away = not-true (samePart p (σ t)) (and-right (stakes P μ p t) (not (samePart p (σ t))) h)
+      away : gives p t ≡ false
+      away = not-true (gives p t) (and-right (stakes P μ p t) (not (gives p t)) h)
 
   -- the nonzeros at stake that are not in p are paid by the lines that lean to p and are cut
   lost-paid :
-      count (λ t. stakes P μ p t and not (samePart p (σ t))) (P .size)
-      ≤ sum (λ l. untakenOn P μ l * bit (leansCut P μ σ p l)) (lines P)
+      count (λ t. stakes P μ p t and not (gives p t)) (P .size)
+      ≤ sum (λ l. untakenOn P μ l * bit (leansCut P μ cut p l)) (lines P)
   lost-paid =
       charge
-      (λ t l. bit (leansCut P μ σ p l and (on P l t and untaken P μ t)))
-      (λ t. bit (stakes P μ p t and not (samePart p (σ t))))
-      (λ l. untakenOn P μ l * bit (leansCut P μ σ p l))
+      (λ t l. bit (leansCut P μ cut p l and (on P l t and untaken P μ t)))
+      (λ t. bit (stakes P μ p t and not (gives p t)))
+      (λ l. untakenOn P μ l * bit (leansCut P μ cut p l))
       (P .size)
       (lines P)
       paid
-      (λ l b. line-pays P μ σ p l)
+      (λ l b. line-pays P μ cut p l)
     where
       paid :
           (t : ℕ) → t < P .size →
-          bit (stakes P μ p t and not (samePart p (σ t)))
-          ≤ count (λ l. leansCut P μ σ p l and (on P l t and untaken P μ t)) (lines P)
+          bit (stakes P μ p t and not (gives p t))
+          ≤ count (λ l. leansCut P μ cut p l and (on P l t and untaken P μ t)) (lines P)
       paid t b =
           by-test
-          (stakes P μ p t and not (samePart p (σ t)))
-          (λ e. omega (arith, bit-le-one (stakes P μ p t and not (samePart p (σ t))), lost-on t b e))
-          (λ e. omega (arith, bit-false (stakes P μ p t and not (samePart p (σ t))) e))
+          (stakes P μ p t and not (gives p t))
+          (λ e. omega (arith, bit-le-one (stakes P μ p t and not (gives p t)), lost-on t b e))
+          (λ e. omega (arith, bit-false (stakes P μ p t and not (gives p t)) e))
 
   -- what is at stake fits the room and the lines that lean to p and are cut
   pub stake-fits :
-      (cap : ℕ) → load P σ p ≤ cap →
-      atStake P μ p ≤ (cap - taken P μ p) + sum (λ l. untakenOn P μ l * bit (leansCut P μ σ p l)) (lines P)
-  stake-fits cap fits =
+      atStake P μ p ≤ (cap - taken P μ p) + sum (λ l. untakenOn P μ l * bit (leansCut P μ cut p l)) (lines P)
+  stake-fits =
       omega (
         arith,
         stake-count P μ p,
-        count-split (stakes P μ p) (λ t. samePart p (σ t)) (P .size),
+        count-split (stakes P μ p) (gives p) (P .size),
+        d .fits p,
         kept-fits,
         lost-paid,
       )

@@ -1,5 +1,6 @@
 -- L3 for one part: the number struck is at most the number of lines that lean to the part and are cut.
 -- Assumes nothing.
+use mathlib.Core.Bool.{Bool}
 use mathlib.Core.Path.{ap}
 use Prim.Native.Nat.{ℕ, suc, _-_, _*_, _≤_, _<_}
 use native.Mathlib.Omega.{arith}
@@ -11,9 +12,9 @@ use Rattle.counting.proofs.Counted.{count-mono, count-most}
 use Rattle.counting.proofs.Grouped.{sum-by-value, count-by-value}
 use Rattle.model.specs.declared.Part.{Part}
 use Rattle.model.specs.Pattern.{Pattern, Inside, lines, on}
-use Rattle.model.specs.Split.{Split, load}
-use Rattle.model.specs.Marking.{Marking, Agrees, taken}
+use Rattle.model.specs.Marking.{Marking, taken}
 use Rattle.model.specs.Bound.{leans, untaken, untakenOn, atStake, falling, leaningCounts, struck}
+use Rattle.model.proofs.Bound.Division.{Division}
 use Rattle.model.proofs.Bound.Stake.{leansCut, cut-leans, stake-fits}
 use Rattle.model.proofs.Bound.Greedy.{firstSum, strikes-least, falling-most}
 
@@ -24,22 +25,22 @@ untaken-most P μ l = count-most (λ t. on P l t and untaken P μ t) (P .size)
 
 -- lines that lean to p and are cut have no more untaken nonzeros than as many first counts of the lines that lean to p
 paid-most :
-    (P : Pattern) (μ : Marking) (σ : Split) (p : Part) →
-    sum (λ l. untakenOn P μ l * bit (leansCut P μ σ p l)) (lines P)
-    ≤ firstSum (count (leansCut P μ σ p) (lines P)) (leaningCounts P μ p)
+    (P : Pattern) (μ : Marking) (cut : ℕ → Bool) (p : Part) →
+    sum (λ l. untakenOn P μ l * bit (leansCut P μ cut p l)) (lines P)
+    ≤ firstSum (count (leansCut P μ cut p) (lines P)) (leaningCounts P μ p)
 unfolding leaningCounts
-paid-most P μ σ p =
+paid-most P μ cut p =
     omega (
       arith,
-      sum-by-value (λ x. x) (leansCut P μ σ p) (untakenOn P μ) (lines P) (suc (P .size)) small,
+      sum-by-value (λ x. x) (leansCut P μ cut p) (untakenOn P μ) (lines P) (suc (P .size)) small,
       falling-most cutAt leanAt (P .size) fewer,
       ap
           (λ (c : ℕ). firstSum c (falling leanAt (P .size)))
-          (count-by-value (leansCut P μ σ p) (untakenOn P μ) (lines P) (suc (P .size)) small),
+          (count-by-value (leansCut P μ cut p) (untakenOn P μ) (lines P) (suc (P .size)) small),
     )
   where
     cutAt : ℕ → ℕ
-    cutAt x = count (λ l. leansCut P μ σ p l and eqb (untakenOn P μ l) x) (lines P)
+    cutAt x = count (λ l. leansCut P μ cut p l and eqb (untakenOn P μ l) x) (lines P)
 
     leanAt : ℕ → ℕ
     leanAt x = count (λ l. leans P μ p l and eqb (untakenOn P μ l) x) (lines P)
@@ -50,22 +51,22 @@ paid-most P μ σ p =
     fewer : (x : ℕ) → cutAt x ≤ leanAt x
     fewer x =
         count-mono
-        (λ l. leansCut P μ σ p l and eqb (untakenOn P μ l) x)
+        (λ l. leansCut P μ cut p l and eqb (untakenOn P μ l) x)
         (λ l. leans P μ p l and eqb (untakenOn P μ l) x)
         (lines P)
         (λ l b h. and-intro
-        (cut-leans P μ σ p l (and-left (leansCut P μ σ p l) (eqb (untakenOn P μ l) x) h))
-        (and-right (leansCut P μ σ p l) (eqb (untakenOn P μ l) x) h))
+        (cut-leans P μ cut p l (and-left (leansCut P μ cut p l) (eqb (untakenOn P μ l) x) h))
+        (and-right (leansCut P μ cut p l) (eqb (untakenOn P μ l) x) h))
 
 -- the number struck for p is at most the number of lines that lean to p and are cut
 pub struck-cut :
-    (P : Pattern) (μ : Marking) (σ : Split) (p : Part) →
-    Inside P → Agrees P μ σ → (cap : ℕ) → load P σ p ≤ cap → struck P cap μ p ≤ count (leansCut P μ σ p) (lines P)
+    {P : Pattern} {cap : ℕ} {μ : Marking} {gives : Part → ℕ → Bool} {cut : ℕ → Bool} →
+    Inside P → Division P cap μ gives cut → (p : Part) → struck P cap μ p ≤ count (leansCut P μ cut p) (lines P)
 unfolding struck
-struck-cut P μ σ p i agrees cap fits =
+struck-cut {P} {cap} {μ} {gives} {cut} i d p =
     strikes-least
     (leaningCounts P μ p)
-    (count (leansCut P μ σ p) (lines P))
+    (count (leansCut P μ cut p) (lines P))
     (atStake P μ p)
     (cap - taken P μ p)
-    (omega (arith, stake-fits P μ σ p i agrees cap fits, paid-most P μ σ p))
+    (omega (arith, stake-fits i d p, paid-most P μ cut p))

@@ -3,13 +3,14 @@
 use mathlib.Core.Bool.{true, false}
 use mathlib.Core.Path.{_≡_, refl, _∙_, ap}
 use Prim.Native.Nat.{ℕ, _≤_, _<_}
+use native.Mathlib.Omega.{arith}
 use Rattle.counting.specs.Tests.{_and_}
-use Rattle.counting.proofs.Joined.{clash, and-intro}
+use Rattle.counting.proofs.Joined.{no-way, clash, and-intro}
 use Rattle.counting.proofs.Counted.{any-intro}
 use Rattle.model.specs.declared.Part.{Part}
 use Rattle.model.specs.declared.Part.the-variants.{Zero, One}
 use Rattle.model.specs.Pattern.{Pattern, on}
-use Rattle.model.specs.Split.{Split, Meets, other, samePart, holds, isCut, load}
+use Rattle.model.specs.Split.{Split, Meets, partNumber, other, samePart, holds, isCut, load}
 
 -- a part is the same as itself
 pub same-refl : (p : Part) → samePart p p ≡ true
@@ -36,6 +37,10 @@ same-other Zero Zero h = clash refl h
 same-other Zero One h = refl
 same-other One Zero h = refl
 same-other One One h = clash refl h
+
+-- the two parts differ
+pub two-parts : {A : Type 0} → Zero ≡ One → A
+two-parts e = let z : _≡_ {A = ℕ} 0 1 = ap partNumber e in no-way (omega arith)
 
 -- a part is not the same as both
 pub same-once : (q : Part) → samePart Zero q ≡ true → samePart One q ≡ false

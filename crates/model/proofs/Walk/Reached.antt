@@ -15,7 +15,6 @@ use Rattle.model.proofs.Walk.Sound.{Sound, empty-valid}
 use Rattle.model.proofs.Walk.Steps.{after, try-keeps, walk-keeps}
 use Rattle.model.proofs.Walk.Legal.{Legal, Orderly, BestIs, walk-orderly}
 use Rattle.model.proofs.Walk.Exact.{Exact, complete-exact}
-use Rattle.model.proofs.Walk.Ending.{tries-within}
 
 -- a record for this m, n, number of nonzeros and cap
 pub record For (m n nonzeros cap : ℕ) (r : Record) : Type 0 where
@@ -91,16 +90,17 @@ none-going {R} m n nonzeros cap tries S missing = go (after R m n nonzeros cap t
     go true done = exact-found (complete-exact m n nonzeros cap tries S done) missing
     go false going = going
 
--- a state that a walk reaches is not refused
-pub reached-fine : {R : Rules} (m n nonzeros cap tries : ℕ) → Sound R
-    → nonzeros ≤ 2 * cap → cap ≤ capLimit → tries ≤ triesLimit
-    → stateFine R m n nonzeros (after R m n nonzeros cap tries) ≡ true
+-- a state that a walk reaches is not refused, within the limit on tries
+pub reached-fine :
+    {R : Rules} (m n nonzeros cap tries : ℕ) →
+    Sound R → nonzeros ≤ 2 * cap → cap ≤ capLimit → after R m n nonzeros cap tries .tries ≤ triesLimit →
+    stateFine R m n nonzeros (after R m n nonzeros cap tries) ≡ true
 reached-fine {R} m n nonzeros cap tries S enough small few =
-    let made = tries-within R m n nonzeros cap tries in
-    orderly-fine (after R m n nonzeros cap tries)
+    orderly-fine
+    (after R m n nonzeros cap tries)
     (walk-for R m n nonzeros cap tries)
     (walk-orderly R m n nonzeros cap tries (empty-valid S))
     enough
     small
-    (omega arith)
+    few
     (none-going m n nonzeros cap tries S)
