@@ -4,3 +4,4 @@ pub mod Matching
 pub mod Walk
 pub mod Order
 pub mod Theorems
+pub mod State

@@ -113,7 +113,7 @@ mirrored-mark P σ l h =
     ∙ turned-mark (holds P σ Zero l) (holds P σ One l) (nonempty-held P σ l h)
 
 -- two stacks with the same marks
-stack-eq : (f g : ℕ → ℕ) (d : ℕ) → ((i : ℕ) → i < d → f i ≡ g i) → stack f d ≡ stack g d
+pub stack-eq : (f g : ℕ → ℕ) (d : ℕ) → ((i : ℕ) → i < d → f i ≡ g i) → stack f d ≡ stack g d
 unfolding stack
 stack-eq f g zero h = refl
 stack-eq f g (suc d) h =

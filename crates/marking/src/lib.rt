@@ -1,0 +1,2 @@
+// Markings in code: the order of lines, and the trail.
+pub mod trail;
