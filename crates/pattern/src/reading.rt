@@ -18,6 +18,20 @@ pub fn wide16(x: u16) -> usize
     x as usize
 }
 
+// A byte as a number of eight bytes.
+pub fn long(x: u8) -> u64
+    ensures { λ r. ⌜ (r ≡ x) × (r < 256) ⌝ }
+{
+    x as u64
+}
+
+// A number of two bytes as one of eight.
+pub fn long16(x: u16) -> u64
+    ensures { λ r. ⌜ (r ≡ x) × (r < 65536) ⌝ }
+{
+    x as u64
+}
+
 // The byte at a place of a list.
 pub fn byte_at(list: &[u8], at: usize) -> u8
     ensures { λ r. ⌜ r ≡ getD (now (list .entry)) at 0 ⌝ }

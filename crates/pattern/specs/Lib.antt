@@ -1,0 +1,4 @@
+pub mod Checks
+pub mod Splits
+pub mod Measures
+pub mod Samples

@@ -1,0 +1,18 @@
+// The cap from a percentage.
+use model::CapAnswer;
+use model::Word;
+ghost use mathlib.Core.Path.{_≡_};
+ghost use Rattle.model.specs.Calls.{capCall};
+
+// The cap from e: 4 for N, then 11, then the whole part of (100 + e) × N / 200.
+pub fn cap_from_percent(nonzeros: u64, percent: u64) -> CapAnswer
+    ensures { λ r. ⌜ r ≡ capCall nonzeros percent ⌝ }
+{
+    if 2000 < nonzeros {
+        return CapAnswer::Refused(Word::TooBig, 0);
+    }
+    if 100 < percent {
+        return CapAnswer::Refused(Word::Cap, 0);
+    }
+    CapAnswer::Capped((100 + percent) * nonzeros / 200)
+}

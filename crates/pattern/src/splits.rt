@@ -1,0 +1,145 @@
+// Load and volume of a split that is given as bytes: byte 0 is part 0, any other byte part 1.
+use crate::reading::byte_at;
+use crate::reading::column_of;
+use crate::reading::row_of;
+use crate::reading::wide;
+use crate::reading::wide16;
+use model::Part;
+ghost use mathlib.Core.Path.{_≡_};
+ghost use Rattle.counting.specs.Tests.{_and_, bit};
+ghost use Rattle.counting.specs.Sums.{count};
+ghost use Rattle.model.specs.Pattern.{patternOf};
+ghost use Rattle.model.specs.Split.{samePart, volume};
+ghost use Rattle.pattern.specs.Splits.{splitOf, inPart, loadOf, noLines, noted, heldLines, isNoted, bothNoted};
+
+// The part of nonzero t.
+pub fn part_of(parts: &[u8], t: u16) -> Part
+    ensures { λ r. ⌜ r ≡ splitOf (now (parts .entry)) t ⌝ }
+{
+    let at = wide16(t);
+    let byte = byte_at(parts, at);
+    if byte == 0 { Part::Zero } else { Part::One }
+}
+
+// The two parts are the same.
+pub fn same_part(p: Part, q: Part) -> bool
+    ensures { λ r. ⌜ r ≡ samePart p q ⌝ }
+{
+    match p {
+        Part::Zero => match q {
+            Part::Zero => true,
+            Part::One => false,
+        },
+        Part::One => match q {
+            Part::Zero => false,
+            Part::One => true,
+        },
+    }
+}
+
+// Nonzero t is in a part.
+pub fn is_in(parts: &[u8], part: Part, t: u16) -> bool
+    ensures { λ r. ⌜ r ≡ inPart (now (parts .entry)) part t ⌝ }
+{
+    let given = part_of(parts, t);
+    same_part(part, given)
+}
+
+// What nonzero t adds to the load of a part.
+pub fn share_of(parts: &[u8], part: Part, t: u16) -> u64
+    ensures { λ r. ⌜ r ≡ bit (inPart (now (parts .entry)) part t) ⌝ }
+{
+    if is_in(parts, part, t) { 1 } else { 0 }
+}
+
+// Load: a part's number of nonzeros.
+pub fn load_of(parts: &[u8], nonzeros: u16, part: Part) -> u64
+    ensures { λ r. ⌜ r ≡ loadOf (now (parts .entry)) nonzeros part ⌝ }
+{
+    let mut load: u64 = 0;
+    let mut t: u16 = 0;
+    while t < nonzeros {
+        load += share_of(parts, part, t);
+        t += 1;
+    }
+    load
+}
+
+// Both lines of nonzero t noted, where it is in the part.
+pub fn note_lines(m: u8, list: &[u8], parts: &[u8], part: Part, t: u16, held: &mut [u8; 512])
+    ensures { λ _. ⌜ now (held .exit) ≡ noted m (now (list .entry)) (now (parts .entry)) part t (now (held .entry)) ⌝ }
+{
+    if is_in(parts, part, t) {
+        let row = wide(row_of(list, t));
+        let column = wide(m) + wide(column_of(list, t));
+        held[row] = 1;
+        held[column] = 1;
+    }
+}
+
+// No line noted.
+pub fn no_lines() -> [u8; 512]
+    ensures { λ r. ⌜ r ≡ noLines ⌝ }
+{
+    [0u8; 512]
+}
+
+// The lines that hold a part, each with 1 at its number.
+pub fn held_lines(m: u8, nonzeros: u16, list: &[u8], parts: &[u8], part: Part) -> [u8; 512]
+    ensures { λ r. ⌜ r ≡ heldLines m (now (list .entry)) (now (parts .entry)) part nonzeros ⌝ }
+{
+    let mut held = no_lines();
+    let mut t: u16 = 0;
+    while t < nonzeros {
+        note_lines(m, list, parts, part, t, &mut held);
+        t += 1;
+    }
+    held
+}
+
+// Line l is noted.
+pub fn is_noted(held: &[u8], l: u16) -> bool
+    ensures { λ r. ⌜ r ≡ isNoted (now (held .entry)) l ⌝ }
+{
+    let at = wide16(l);
+    byte_at(held, at) == 1
+}
+
+// Both tests pass.
+pub fn both(first: bool, second: bool) -> bool
+    ensures { λ r. ⌜ r ≡ (first and second) ⌝ }
+{
+    if first { second } else { false }
+}
+
+// What line l adds to the number of lines noted in both lists.
+pub fn cut_of(zeros: &[u8], ones: &[u8], l: u16) -> u64
+    ensures { λ r. ⌜ r ≡ bit (bothNoted (now (zeros .entry)) (now (ones .entry)) l) ⌝ }
+{
+    let zero = is_noted(zeros, l);
+    let one = is_noted(ones, l);
+    if both(zero, one) { 1 } else { 0 }
+}
+
+// The number of lines noted in both lists.
+pub fn cuts_of(zeros: &[u8], ones: &[u8], lines: u16) -> u64
+    ensures { λ r. ⌜ r ≡ count (bothNoted (now (zeros .entry)) (now (ones .entry))) lines ⌝ }
+{
+    let mut cuts: u64 = 0;
+    let mut l: u16 = 0;
+    while l < lines {
+        cuts += cut_of(zeros, ones, l);
+        l += 1;
+    }
+    cuts
+}
+
+// Volume of a split: the number of lines with nonzeros in both parts.
+pub fn volume_of(m: u8, n: u8, nonzeros: u16, list: &[u8], parts: &[u8]) -> u64
+    ensures { λ r. ⌜ r ≡ volume (patternOf m n nonzeros (now (list .entry))) (splitOf (now (parts .entry))) ⌝ }
+{
+    let zeros = held_lines(m, nonzeros, list, parts, Part::Zero);
+    let ones = held_lines(m, nonzeros, list, parts, Part::One);
+    let lines = (m as u16) + (n as u16);
+    cuts_of(&zeros, &ones, lines)
+}
