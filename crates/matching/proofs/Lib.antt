@@ -1,0 +1,4 @@
+pub mod Visits
+pub mod Rows
+pub mod Paths
+pub mod Samples

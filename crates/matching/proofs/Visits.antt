@@ -1,0 +1,4 @@
+pub mod Steps
+pub mod Enough
+pub mod Code
+pub mod Size
