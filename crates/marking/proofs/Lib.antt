@@ -1,2 +1,7 @@
 pub mod Stacks
 pub mod Trails
+pub mod Orders
+pub mod Counts
+pub mod Filled
+pub mod Marked
+pub mod Ordered

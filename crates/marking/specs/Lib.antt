@@ -1,1 +1,3 @@
 pub mod Stack
+pub mod Order
+pub mod Marks

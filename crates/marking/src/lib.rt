@@ -1,2 +1,4 @@
-// Markings in code: the order of lines, and the trail.
+// Markings in code: the order of lines, the trail, and the marks of lines.
+pub mod marks;
+pub mod order;
 pub mod trail;

@@ -1,23 +1,20 @@
+-- `marking::top` meets its contract.
+-- Assumes nothing.
 use borrow.Author.Tests.{lt-ltb, le-ltb}
-use mathlib.Core.Path.{sym, _∙_, ap}
+use mathlib.Core.Path.{sym}
 use Rattle.counting.proofs.Joined.{pick-true, pick-false}
 use Rattle.marking.specs.Stack.{topOf}
 use borrow.Author.Needs.{needs}
 use Rattle.marking.proofs.trail.top.Statement.{statement}
 use Rattle.marking.proofs.trail.top.Tie as tie
-use Rattle.marking.proofs.trail.top.Reads as reads
-use Rattle.marking.proofs.trail.top.Lts as lts
 
--- src/trail.rt:19:9
 sub-result : tie.Need-sub-result
 sub-result c = search needs
 
--- src/trail.rt:15:1
 returns : tie.Need-returns
 unfolding topOf
 returns c = sym (pick-true _ _ (lt-ltb _ _ (c .if1 .taken)))
 
--- src/trail.rt:15:1
 returns-2 : tie.Need-returns-2
 unfolding topOf
 returns-2 c = sym (pick-false _ _ (le-ltb _ _ (c .if1 .left)))

@@ -1,27 +1,23 @@
+-- `marking::Stack::append` meets its contract.
+-- Assumes nothing.
 use borrow.Author.Tests.{lt-ltb, le-ltb}
-use mathlib.Core.Path.{sym, _∙_, ap}
+use mathlib.Core.Path.{sym}
 use Rattle.counting.proofs.Joined.{pick-true, pick-false}
 use Rattle.marking.specs.Stack.{appended}
 use borrow.Author.Needs.{needs}
 use Rattle.marking.proofs.trail.Stack.append.Statement.{statement}
 use Rattle.marking.proofs.trail.Stack.append.Tie as tie
-use Rattle.marking.proofs.trail.Stack.append.Reads as reads
-use Rattle.marking.proofs.trail.Stack.append.Lts as lts
 
--- src/trail.rt:32:13
 element-write-self : tie.Need-element-write-self
 element-write-self c = search needs
 
--- src/trail.rt:33:24
 add-self : tie.Need-add-self
 add-self c = search needs
 
--- src/trail.rt:27:5
 returns : tie.Need-returns
 unfolding appended
 returns c = sym (pick-true _ _ (lt-ltb _ _ (c .if1 .taken)))
 
--- src/trail.rt:27:5
 returns-2 : tie.Need-returns-2
 unfolding appended
 returns-2 c = sym (pick-false _ _ (le-ltb _ _ (c .if1 .left)))
