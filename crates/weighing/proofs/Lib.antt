@@ -1,0 +1,9 @@
+pub mod Stores
+pub mod Steps
+pub mod Conditions
+pub mod Taken
+pub mod Leans
+pub mod Tally
+pub mod Struck
+pub mod Weighed
+pub mod Whole

@@ -1,0 +1,170 @@
+-- Laws of the pass that weighs lines: its start, one nonzero more, its end; and that it gives what is at stake and the conflicts.
+-- Assumes nothing.
+use mathlib.Core.Bool.{Bool, true, false, not}
+use mathlib.Core.List.{List}
+use mathlib.Core.Path.{_≡_, refl, sym, _∙_, ap}
+use Prim.Native.Nat.{ℕ, _+_, _≤_, _<_}
+use native.Mathlib.Omega.{arith}
+use lib.Dec.{eqb}
+use lib.ListN.{getD}
+use Rattle.counting.specs.Tests.{_and_, _or_, pick, bit}
+use Rattle.counting.specs.Sums.{count}
+use Rattle.counting.proofs.Joined.{no-way}
+use Rattle.counting.proofs.Counted.{count-most, count-eq, count-some, count-none}
+use Rattle.model.specs.declared.Part.{Part}
+use Rattle.model.specs.declared.Part.the-variants.{Zero, One}
+use Rattle.model.specs.Pattern.{Pattern, Inside, patternOf, rowIn, columnIn, lines, rowLine, columnLine, on}
+use Rattle.model.specs.Split.{partNumber}
+use Rattle.model.specs.Marking.{Marking, takes}
+use Rattle.model.specs.Bound.{leans, untaken, untakenOn, atStake, conflict, L4}
+use Rattle.model.proofs.Split.Lines.{row-line-in, column-line-in}
+use Rattle.model.proofs.Bound.Cover.{cover-bounds}
+use Rattle.weighing.specs.declared.weights.Stakes.{Stakes}
+use Rattle.weighing.specs.Cells.{markingIn, raised, Cleared}
+use Rattle.weighing.specs.Weights.{leansIn, stakeIn, conflictIn, WeighsAll}
+use Rattle.weighing.proofs.Steps.{count-more, count-none-yet}
+use Rattle.weighing.proofs.Stores.{raised-bit}
+
+module _ (m n nonzeros : ℕ) (list marks lean : List ℕ) (t row column : ℕ) (r : Bool) (a : row ≡ rowIn list t) (b : column ≡ columnIn list t) where
+  -- a nonzero is untaken, by the bytes of its row and column
+  pub untaken-code :
+      r
+      ≡ not
+      ((eqb (markingIn marks row) 0 or eqb (markingIn marks (m + column)) 0)
+      or (eqb (markingIn marks row) 1 or eqb (markingIn marks (m + column)) 1)) →
+      r ≡ untaken (patternOf m n nonzeros list) (markingIn marks) t
+  unfolding untaken takes patternOf rowLine columnLine
+  untaken-code e = e ∙ rw (a, b)
+
+  -- a line of it leans to a part
+  pub leans-code :
+      (part : ℕ) → r ≡ eqb (getD lean row 0) part or eqb (getD lean (m + column) 0) part →
+      r ≡ leansIn (patternOf m n nonzeros list) lean part t
+  unfolding leansIn patternOf rowLine columnLine
+  leans-code part e = e ∙ rw (a, b)
+
+  -- it is a conflict
+  pub conflict-code :
+      r
+      ≡ (eqb (getD lean row 0) 0 and eqb (getD lean (m + column) 0) 1)
+      or (eqb (getD lean row 0) 1 and eqb (getD lean (m + column) 0) 0) →
+      r ≡ conflictIn (patternOf m n nonzeros list) lean t
+  unfolding conflictIn patternOf rowLine columnLine
+  conflict-code e = e ∙ rw (a, b)
+
+-- what a pass over the first t nonzeros has found, and the weights that it left
+pub record WeighsTo (P : Pattern) (μ : Marking) (lean : List ℕ) (t zero one conflicts : ℕ) (weights : List ℕ) : Type 0 where
+  pub zero-is : zero ≡ count (λ s. untaken P μ s and leansIn P lean 0 s) t
+  pub one-is : one ≡ count (λ s. untaken P μ s and leansIn P lean 1 s) t
+  pub conflicts-is : conflicts ≡ count (conflictIn P lean) t
+  pub weights-are : (l : ℕ) → l < 512 → getD weights l 0 ≡ count (λ s. on P l s and untaken P μ s) t
+
+-- before the first nonzero
+pub weighs-start :
+    (P : Pattern) (μ : Marking) (lean weights : List ℕ) → Cleared weights → WeighsTo P μ lean 0 0 0 0 weights
+weighs-start P μ lean weights clear =
+    record {
+      zero-is = sym (count-none-yet (λ s. untaken P μ s and leansIn P lean 0 s));
+      one-is = sym (count-none-yet (λ s. untaken P μ s and leansIn P lean 1 s));
+      conflicts-is = sym (count-none-yet (conflictIn P lean));
+      weights-are = λ l b. clear l b ∙ sym (count-none-yet (λ s. on P l s and untaken P μ s));
+    }
+
+-- what one nonzero adds
+pub record WeighsMore (P : Pattern) (μ : Marking) (lean : List ℕ) (t zero one conflicts zero′ one′ conflicts′ : ℕ) (weights weights′ : List ℕ) : Type 0 where
+  pub zero-more : zero′ ≡ zero + bit (untaken P μ t and leansIn P lean 0 t)
+  pub one-more : one′ ≡ one + bit (untaken P μ t and leansIn P lean 1 t)
+  pub conflicts-more : conflicts′ ≡ conflicts + bit (conflictIn P lean t)
+  pub stored :
+      (l : ℕ) → l < 512 →
+      getD weights′ l 0 ≡ pick (on P l t and untaken P μ t) (raised (getD weights l 0)) (getD weights l 0)
+
+-- one nonzero more
+pub weighs-more :
+    {P : Pattern} {μ : Marking} {lean : List ℕ} {t zero one conflicts zero′ one′ conflicts′ : ℕ} {weights weights′ : List ℕ} →
+    t < 65535 →
+    WeighsTo P μ lean t zero one conflicts weights →
+    WeighsMore P μ lean t zero one conflicts zero′ one′ conflicts′ weights weights′ →
+    WeighsTo P μ lean (t + 1) zero′ one′ conflicts′ weights′
+weighs-more {P} {μ} {lean} {t} {zero} {one} {conflicts} {zero′} {one′} {conflicts′} {weights} {weights′} small k h =
+    record {
+      zero-is = omega (arith, count-more (λ s. untaken P μ s and leansIn P lean 0 s) t, h .zero-more, k .zero-is);
+      one-is = omega (arith, count-more (λ s. untaken P μ s and leansIn P lean 1 s) t, h .one-more, k .one-is);
+      conflicts-is = omega (arith, count-more (conflictIn P lean) t, h .conflicts-more, k .conflicts-is);
+      weights-are = weighed;
+    }
+  where
+    weighed : (l : ℕ) → l < 512 → getD weights′ l 0 ≡ count (λ s. on P l s and untaken P μ s) (t + 1)
+    weighed l b =
+        omega (
+          arith,
+          raised-bit
+              (on P l t and untaken P μ t)
+              (getD weights l 0)
+              (getD weights′ l 0)
+              (omega (arith, k .weights-are l b, count-most (λ s. on P l s and untaken P μ s) t))
+              (h .stored l b),
+          k .weights-are l b,
+          count-more (λ s. on P l s and untaken P μ s) t,
+        )
+
+-- after the last nonzero
+pub weighs-end :
+    {P : Pattern} {μ : Marking} {lean : List ℕ} {t : ℕ} {r : Stakes} {weights : List ℕ} →
+    t ≡ P .size → WeighsTo P μ lean t (r .zero) (r .one) (r .conflicts) weights → WeighsAll P μ lean r weights
+unfolding stakeIn untakenOn
+weighs-end {P} {μ} {lean} e k =
+    record {
+      zero-is = k .zero-is ∙ ap (count (λ s. untaken P μ s and leansIn P lean 0 s)) e;
+      one-is = k .one-is ∙ ap (count (λ s. untaken P μ s and leansIn P lean 1 s)) e;
+      conflicts-is = k .conflicts-is ∙ ap (count (conflictIn P lean)) e;
+      weights-are = λ l b. k .weights-are l b ∙ ap (count (λ s. on P l s and untaken P μ s)) e;
+    }
+
+-- a count so far is at most the number of nonzeros passed
+pub stakes-small :
+    {P : Pattern} {μ : Marking} {lean : List ℕ} {t zero one conflicts : ℕ} {weights : List ℕ} →
+    WeighsTo P μ lean t zero one conflicts weights → (zero ≤ t) × (one ≤ t) × (conflicts ≤ t)
+stakes-small {P} {μ} {lean} {t} k = (
+  omega (arith, k .zero-is, count-most (λ s. untaken P μ s and leansIn P lean 0 s) t),
+  omega (arith, k .one-is, count-most (λ s. untaken P μ s and leansIn P lean 1 s) t),
+  omega (arith, k .conflicts-is, count-most (conflictIn P lean) t),
+)
+
+-- an array of how lines lean is that of a marking
+abbrev pub LeansRight : Pattern → Marking → List ℕ → Type 0
+LeansRight P μ lean = (p : Part) (l : ℕ) → l < lines P → eqb (getD lean l 0) (partNumber p) ≡ leans P μ p l
+
+module _ (P : Pattern) (μ : Marking) (lean : List ℕ) (i : Inside P) (right : LeansRight P μ lean) where
+  -- the stake by the array is that of the marking
+  pub stake-is : (p : Part) → stakeIn P μ lean (partNumber p) ≡ atStake P μ p
+  unfolding stakeIn leansIn atStake
+  stake-is p =
+      count-eq
+      (λ t. untaken P μ t and (eqb (getD lean (rowLine P t) 0) (partNumber p) or eqb (getD lean (columnLine P t) 0) (partNumber p)))
+      (λ t. untaken P μ t and (leans P μ p (rowLine P t) or leans P μ p (columnLine P t)))
+      (P .size)
+      (λ t b. rw (right p (rowLine P t) (row-line-in P t i b), right p (columnLine P t) (column-line-in P t i b)))
+
+  -- a conflict by the array is one of the marking
+  pub conflict-is : (t : ℕ) → t < P .size → conflictIn P lean t ≡ conflict P μ t
+  unfolding conflictIn conflict
+  conflict-is t b =
+      rw (
+        right Zero (rowLine P t) (row-line-in P t i b),
+        right One (columnLine P t) (column-line-in P t i b),
+        right One (rowLine P t) (row-line-in P t i b),
+        right Zero (columnLine P t) (column-line-in P t i b),
+      )
+
+  -- without conflicts L4 is 0
+  pub no-conflicts : count (conflictIn P lean) (P .size) ≡ 0 → L4 P μ ≡ 0
+  no-conflicts e =
+      omega (
+        arith,
+        cover-bounds P μ (λ l. false) i none,
+        count-none (λ l. false) (lines P) (λ l b. refl),
+      )
+    where
+      none : (t : ℕ) → t < P .size → conflict P μ t ≡ true → false or false ≡ true
+      none t b h = no-way (omega (arith, count-some (conflictIn P lean) (P .size) t b (conflict-is t b ∙ h)))

@@ -1,0 +1,145 @@
+-- `weighing::leaning::lean_all` meets its contract. The invariant: the counts and the array are those of the lines passed.
+-- Assumes nothing.
+use borrow.Author.Needs.{needs}
+use mathlib.Core.Path.{_≡_, refl, sym, _∙_, ap}
+use Prim.Native.Nat.{ℕ, _+_, _-_, _≤_, _<_}
+use native.Mathlib.Omega.{arith}
+use lib.ListN.{getD}
+use Rattle.counting.proofs.Joined.{bit-le-one}
+use Rattle.model.specs.Bound.{saysCut, saysTorn}
+use Rattle.weighing.specs.Leaning.{leanNumber, conditionIn}
+use Rattle.weighing.proofs.Steps.{bit-named}
+use Rattle.weighing.proofs.Stores.{value-named}
+use Rattle.weighing.proofs.Leans.{LeansTo, LeansMore, leans-start, leans-more, leans-end, cut-small, torn-small}
+use Rattle.weighing.proofs.leaning.lean_all.Statement.{statement}
+use Rattle.weighing.proofs.leaning.lean_all.Tie as tie
+
+abbrev Inv-loop : tie.InvT-loop
+Inv-loop m n marks by-zero by-one lean₀ total cut₀ torn₀ l₀ lean cut torn l =
+    (total ≡ m + n)
+    × (l ≤ total)
+    × LeansTo (conditionIn marks by-zero by-one) l cut torn lean₀ lean
+
+abbrev μ-loop : tie.MeasureT-loop
+μ-loop m n marks by-zero by-one lean₀ total cut₀ torn₀ l₀ lean cut torn l = total - l
+
+wide-requires : tie.Need-wide-requires Inv-loop μ-loop
+wide-requires c κs = search needs
+
+wide-requires-2 : tie.Need-wide-requires-2 Inv-loop μ-loop
+wide-requires-2 c κs = search needs
+
+add-total : tie.Need-add-total Inv-loop μ-loop
+add-total c = omega arith
+
+loop-holds : tie.Need-loop-holds Inv-loop μ-loop
+loop-holds c =
+    let a = c .before .before .args in (
+      omega (arith, c .wide2 .ensures .0, c .before .wide .ensures .0),
+      omega arith,
+      leans-start (conditionIn (a .marks .now) (a .by-zero .now) (a .by-one .now)) (a .lean .now),
+    )
+
+condition-at-requires : tie.Need-condition-at-requires Inv-loop μ-loop
+condition-at-requires c κs = search needs
+
+lean-number-requires : tie.Need-lean-number-requires Inv-loop μ-loop
+lean-number-requires c κs = search needs
+
+put-at-requires : tie.Need-put-at-requires Inv-loop μ-loop
+put-at-requires c κs = search needs
+
+is-cut-requires : tie.Need-is-cut-requires Inv-loop μ-loop
+is-cut-requires c κs = search needs
+
+bit-of-requires : tie.Need-bit-of-requires Inv-loop μ-loop
+bit-of-requires c κs = search needs
+
+add-cut : tie.Need-add-cut Inv-loop μ-loop
+add-cut c =
+    omega (
+      arith,
+      cut-small (c .before .before .before .before .before .before .before .loop .inv .2),
+      c .bit-of .ensures,
+      bit-le-one (c .before .is-cut .result),
+      c .before .before .before .before .before .before .before .loop .inv .0,
+      c .before .before .before .before .before .before .before .before .before .before .fits,
+    )
+
+is-torn-requires : tie.Need-is-torn-requires Inv-loop μ-loop
+is-torn-requires c κs = search needs
+
+bit-of-requires-2 : tie.Need-bit-of-requires-2 Inv-loop μ-loop
+bit-of-requires-2 c κs = search needs
+
+add-torn : tie.Need-add-torn Inv-loop μ-loop
+add-torn c =
+    omega (
+      arith,
+      torn-small (c .before .before .before .before .before .before .before .before .before .loop .inv .2),
+      c .bit-of2 .ensures,
+      bit-le-one (c .before .is-torn .result),
+      c .before .before .before .before .before .before .before .before .before .loop .inv .0,
+      c .before .before .before .before .before .before .before .before .before .before .before .before .fits,
+    )
+
+add-l : tie.Need-add-l Inv-loop μ-loop
+add-l c =
+    omega (
+      arith,
+      c .before .before .before .before .before .before .before .before .before .loop .inv .0,
+      c .before .before .before .before .before .before .before .before .before .before .before .before .fits,
+    )
+
+loop-less : tie.Need-loop-less Inv-loop μ-loop
+loop-less c = omega arith
+
+loop-again : tie.Need-loop-again Inv-loop μ-loop
+loop-again c =
+    let turn = c .before .before .before .before .before .before .before .before .before .loop in
+    let known = c .before .before .before .before .before .before .before .condition-at .ensures in (
+      turn .inv .0,
+      omega arith,
+      leans-more
+          (turn .inv .2)
+          (record {
+            cut-more = bit-named _ _ _ _ (c .before .before .bit-of .ensures) (c .before .before .before .is-cut .ensures ∙ ap saysCut known);
+            torn-more = bit-named _ _ _ _ (c .bit-of2 .ensures) (c .before .is-torn .ensures ∙ ap saysTorn known);
+            stored =
+                value-named
+                (turn .lean)
+                (c .before .before .before .before .put-at .last .0)
+                (turn .l)
+                _
+                _
+                (c .before .before .before .before .put-at .ensures)
+                (c .before .before .before .before .before .lean-number .ensures ∙ ap leanNumber known);
+          }),
+    )
+
+returns : tie.Need-returns Inv-loop μ-loop
+returns c = leans-end (omega arith) (omega (arith, c .before .before .before .before .fits)) (c .before .loop .inv .2)
+
+pub lean-all-spec : {M : Type 1} → statement M
+lean-all-spec =
+    tie.close
+    (tie.spec
+    Inv-loop
+    μ-loop
+    wide-requires
+    wide-requires-2
+    add-total
+    loop-holds
+    condition-at-requires
+    lean-number-requires
+    put-at-requires
+    is-cut-requires
+    bit-of-requires
+    add-cut
+    is-torn-requires
+    bit-of-requires-2
+    add-torn
+    add-l
+    loop-less
+    loop-again
+    returns)

@@ -1,0 +1,42 @@
+-- `weighing::striking::strike` meets its contract.
+-- Assumes nothing.
+use borrow.Author.Needs.{needs}
+use mathlib.Core.Path.{_≡_, refl, sym, _∙_, ap}
+use Prim.Native.Nat.{ℕ, _+_, _≤_, _<_}
+use native.Mathlib.Omega.{arith}
+use Rattle.model.specs.Bound.{falling, strikes}
+use Rattle.weighing.specs.Striking.{linesAt, struckIn, Tallied}
+use Rattle.weighing.proofs.Struck.{strikes-stop, tally-struck, struck-most}
+use Rattle.weighing.proofs.striking.strike.Statement.{statement}
+use Rattle.weighing.proofs.striking.strike.Tie as tie
+
+returns : tie.Need-returns
+unfolding struckIn
+returns c = let a = c .before .args in sym (strikes-stop (falling (linesAt (a .lean .now) (a .weights .now) (a .part) (a .m + a .n)) 2000) (a .s) (a .room) (c .if1 .taken))
+
+no-lines-requires : tie.Need-no-lines-requires
+no-lines-requires c κs = search needs
+
+tally-requires : tie.Need-tally-requires
+tally-requires c κs = c .before .no-lines .ensures
+
+strike-down-requires : tie.Need-strike-down-requires
+strike-down-requires c κs =
+    let a = c .before .before .before .before .before .args in (
+      omega (arith, c .before .tally .ensures .top-small),
+      omega (
+        arith,
+        tally-struck (a .lean .now) (a .weights .now) (a .part) (a .m + a .n) (c .before .tally .ensures) (a .s) (a .room),
+        struck-most (a .lean .now) (a .weights .now) (a .part) (a .m + a .n) (a .s) (a .room),
+        c .before .before .before .before .before .fits,
+      ),
+    )
+
+returns-2 : tie.Need-returns-2
+returns-2 c =
+    let a = c .before .before .before .before .before .before .args in
+    c .strike-down .ensures ∙ tally-struck (a .lean .now) (a .weights .now) (a .part) (a .m + a .n) (c .before .before .tally .ensures) (a .s) (a .room)
+
+pub strike-spec : {M : Type 1} → statement M
+strike-spec =
+    tie.close (tie.spec returns no-lines-requires tally-requires strike-down-requires returns-2)

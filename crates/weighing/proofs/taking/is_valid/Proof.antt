@@ -1,0 +1,26 @@
+-- `weighing::taking::is_valid` meets its contract.
+-- Assumes nothing.
+use borrow.Author.Needs.{needs}
+use mathlib.Core.Bool.{Bool, true, false, not}
+use mathlib.Core.Path.{_≡_, refl, sym, _∙_, ap}
+use Rattle.weighing.proofs.Taken.{valid-both, valid-apart}
+use Rattle.weighing.proofs.taking.is_valid.Statement.{statement}
+use Rattle.weighing.proofs.taking.is_valid.Tie as tie
+
+returns : tie.Need-returns
+returns c = sym (valid-both (c .before .args .taken) (c .before .args .cap) (c .if1 .taken))
+
+cast-both-of : tie.Need-cast-both-of
+cast-both-of c = search needs
+
+cast-both-of-2 : tie.Need-cast-both-of-2
+cast-both-of-2 c = search needs
+
+both-of-requires : tie.Need-both-of-requires
+both-of-requires c κs = search needs
+
+returns-2 : tie.Need-returns-2
+returns-2 c = valid-apart (c .before .before .args .taken) (c .before .before .args .cap) (c .both-of .result) (c .before .if1 .left) (c .both-of .ensures)
+
+pub is-valid-spec : {M : Type 1} → statement M
+is-valid-spec = tie.close (tie.spec returns cast-both-of cast-both-of-2 both-of-requires returns-2)

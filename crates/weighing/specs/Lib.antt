@@ -1,0 +1,5 @@
+pub mod Cells
+pub mod Taking
+pub mod Leaning
+pub mod Striking
+pub mod Weights

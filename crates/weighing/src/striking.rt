@@ -1,0 +1,159 @@
+// The strike-out of L3: leaning lines are counted by their untaken nonzeros, and struck most first.
+use crate::cells::both_of;
+use crate::cells::byte_of;
+use crate::cells::raise;
+use crate::cells::word_or;
+use pattern::reading::wide;
+use pattern::reading::wide16;
+ghost use mathlib.Core.Path.{_≡_};
+ghost use Prim.Native.Nat.{ℕ, _+_, _-_, _≤_, _<_};
+ghost use lib.Dec.{eqb, ltb, leb};
+ghost use lib.ListN.{getD, replicate};
+ghost use Rattle.counting.specs.Tests.{_and_, pick};
+ghost use Rattle.model.specs.Bound.{falling, strikes};
+ghost use Rattle.weighing.specs.Cells.{raised};
+ghost use Rattle.weighing.specs.Striking.{linesAt, leftOf, struckIn, Tallied};
+
+// What is left to strike, and how many lines were struck.
+pub struct Struck {
+    pub left: u16,
+    pub lines: u16,
+}
+
+// No lines of any weight.
+fn no_lines() -> [u16; 2001]
+    ensures { λ r. ⌜ ((x : ℕ) → x < 2001 → getD r x 0 ≡ 0) ⌝ }
+{
+    [0u16; 2001]
+}
+
+// The weight of a line.
+pub fn weight_of(weights: &[u16; 512], line: usize) -> u16
+    ensures { λ r. ⌜ r ≡ getD (now (weights .entry)) line 0 ⌝ }
+{
+    word_or(weights, line)
+}
+
+// The number of lines of a weight.
+fn lines_of(counts: &[u16; 2001], weight: u16) -> u16
+    ensures { λ r. ⌜ r ≡ getD (now (counts .entry)) weight 0 ⌝ }
+{
+    word_or(counts, wide16(weight))
+}
+
+// One more line of a weight where a test passes.
+fn count_line(counts: &mut [u16; 2001], weight: u16, test: bool)
+    ensures { λ _. ⌜ ((x : ℕ) → x < 2001 →
+        getD (now (counts .exit)) x 0 ≡ pick (eqb x weight and test) (raised (getD (now (counts .entry)) x 0)) (getD (now (counts .entry)) x 0)) ⌝ }
+{
+    let at = wide16(weight);
+    if test {
+        raise(counts, at);
+    }
+}
+
+// The greater of two weights, the second only where a test passes and it is at most 2000.
+fn greater(top: u16, weight: u16, test: bool) -> u16
+    ensures { λ r. ⌜ r ≡ pick (test and (leb weight 2000 and ltb top weight)) weight top ⌝ }
+{
+    if both_of(test, both_of(weight <= 2000, top < weight)) {
+        weight
+    } else {
+        top
+    }
+}
+
+// Counts the lines that lean to a part by weight; the greatest weight met.
+fn tally(
+    m: u8,
+    n: u8,
+    lean: &[u8; 512],
+    weights: &[u16; 512],
+    part: u8,
+    counts: &mut [u16; 2001],
+) -> u16
+    requires { ⌜ ((x : ℕ) → x < 2001 → getD (now counts) x 0 ≡ 0) ⌝ }
+    ensures { λ r. ⌜ Tallied (linesAt (now (lean .entry)) (now (weights .entry)) part (m + n)) (now (counts .exit)) r ⌝ }
+{
+    let total = wide(m) + wide(n);
+    let mut top: u16 = 0;
+    let mut l: usize = 0;
+    while l < total {
+        let weight = weight_of(weights, l);
+        let leans = byte_of(lean, l) == part;
+        count_line(counts, weight, leans);
+        top = greater(top, weight, leans);
+        l = l + 1;
+    }
+    top
+}
+
+// A difference that ends at 0.
+fn less(s: u16, x: u16) -> u16
+    ensures { λ r. ⌜ r ≡ s - x ⌝ }
+{
+    if x <= s { s - x } else { 0 }
+}
+
+// Some lines are left, and s is above the room.
+fn goes_on(lines: u16, s: u16, room: u64) -> bool
+    ensures { λ r. ⌜ r ≡ ltb 0 lines and ltb room s ⌝ }
+{
+    both_of(0 < lines, room < s as u64)
+}
+
+// Strikes lines of one weight.
+fn strike_weight(weight: u16, lines: u16, s: u16, room: u64) -> Struck
+    ensures { λ r. ⌜ (r .lines ≡ strikes (replicate lines weight) s room) × (r .left ≡ leftOf lines weight s room) ⌝ }
+{
+    let mut left = s;
+    let mut struck: u16 = 0;
+    let mut k = lines;
+    while goes_on(k, left, room) {
+        left = less(left, weight);
+        struck = struck + 1;
+        k = k - 1;
+    }
+    Struck {
+        left,
+        lines: struck,
+    }
+}
+
+// Strikes lines, most first, from a weight down.
+fn strike_down(counts: &[u16; 2001], top: u16, s: u16, room: u64) -> u16
+    requires { ⌜ (top < 2001) × (strikes (falling (λ x. getD (now counts) x 0) top) s room < 65536) ⌝ }
+    ensures { λ r. ⌜ r ≡ strikes (falling (λ x. getD (now (counts .entry)) x 0) top) s room ⌝ }
+{
+    let mut left = s;
+    let mut struck: u16 = 0;
+    let mut k = top + 1;
+    while goes_on(k, left, room) {
+        k = k - 1;
+        let lines = lines_of(counts, k);
+        let step = strike_weight(k, lines, left, room);
+        left = step.left;
+        struck = struck + step.lines;
+    }
+    struck
+}
+
+// The number of lines struck for a part, whose untaken nonzeros are s.
+pub fn strike(
+    m: u8,
+    n: u8,
+    lean: &[u8; 512],
+    weights: &[u16; 512],
+    part: u8,
+    s: u16,
+    room: u64,
+) -> u16
+    ensures { λ r. ⌜ r ≡ struckIn (now (lean .entry)) (now (weights .entry)) part (m + n) s room ⌝ }
+{
+    if s as u64 <= room {
+        return 0;
+    }
+    let mut counts = no_lines();
+    let top = tally(m, n, lean, weights, part, &mut counts);
+    strike_down(&counts, top, s, room)
+}

@@ -1,0 +1,125 @@
+// What is at stake: the untaken nonzeros of leaning lines, of each line, and the conflicts, in one pass over the nonzeros.
+use crate::cells::bit_of;
+use crate::cells::both_of;
+use crate::cells::byte_of;
+use crate::cells::either_of;
+use crate::cells::raise;
+use crate::taking::takes_by;
+use pattern::reading::column_of;
+use pattern::reading::row_of;
+use pattern::reading::wide;
+ghost use mathlib.Core.Bool.{not};
+ghost use mathlib.Core.Path.{_≡_};
+ghost use Prim.Native.Nat.{ℕ, _+_, _<_};
+ghost use lib.Dec.{eqb};
+ghost use lib.ListN.{getD};
+ghost use Rattle.counting.specs.Tests.{_and_, _or_, pick};
+ghost use Rattle.model.specs.Pattern.{patternOf};
+ghost use Rattle.weighing.specs.Cells.{markingIn, raised, Cleared};
+ghost use Rattle.weighing.specs.Weights.{WeighsAll};
+
+// The untaken nonzeros at stake for 0 and for 1, and the conflicts.
+pub struct Stakes {
+    pub zero: u16,
+    pub one: u16,
+    pub conflicts: u16,
+}
+
+// Sets every weight to 0.
+pub fn clear(weights: &mut [u16; 512])
+    ensures { λ _. ⌜ Cleared (now (weights .exit)) ⌝ }
+{
+    *weights = [0u16; 512];
+}
+
+// A nonzero is untaken.
+pub fn untaken_by(marks: &[u8; 512], m: u8, row: u8, column: u8) -> bool
+    ensures { λ r. ⌜ r ≡ not
+        ((eqb (markingIn (now (marks .entry)) row) 0 or eqb (markingIn (now (marks .entry)) (m + column)) 0)
+        or (eqb (markingIn (now (marks .entry)) row) 1 or eqb (markingIn (now (marks .entry)) (m + column)) 1)) ⌝ }
+{
+    let first = takes_by(marks, m, row, column, 0);
+    let second = takes_by(marks, m, row, column, 1);
+    !either_of(first, second)
+}
+
+// The row or the column of a nonzero leans to a part.
+pub fn leans_by(lean: &[u8; 512], m: u8, row: u8, column: u8, part: u8) -> bool
+    ensures { λ r. ⌜ r ≡ eqb (getD (now (lean .entry)) row 0) part or eqb (getD (now (lean .entry)) (m + column) 0) part ⌝ }
+{
+    let at_row = byte_of(lean, wide(row));
+    let at_column = byte_of(lean, wide(m) + wide(column));
+    either_of(at_row == part, at_column == part)
+}
+
+// The row and the column of a nonzero lean to different parts.
+pub fn conflict_by(lean: &[u8; 512], m: u8, row: u8, column: u8) -> bool
+    ensures { λ r. ⌜ r ≡
+        (eqb (getD (now (lean .entry)) row 0) 0 and eqb (getD (now (lean .entry)) (m + column) 0) 1)
+        or (eqb (getD (now (lean .entry)) row 0) 1 and eqb (getD (now (lean .entry)) (m + column) 0) 0) ⌝ }
+{
+    let at_row = byte_of(lean, wide(row));
+    let at_column = byte_of(lean, wide(m) + wide(column));
+    either_of(
+        both_of(at_row == 0, at_column == 1),
+        both_of(at_row == 1, at_column == 0),
+    )
+}
+
+// One more at a line where a test passes.
+pub fn raise_if(weights: &mut [u16; 512], at: usize, test: bool)
+    ensures { λ _. ⌜ ((l : ℕ) → l < 512 →
+        getD (now (weights .exit)) l 0 ≡ pick (eqb l at and test) (raised (getD (now (weights .entry)) l 0)) (getD (now (weights .entry)) l 0)) ⌝ }
+{
+    if test {
+        raise(weights, at);
+    }
+}
+
+// One more at each line of a nonzero where a test passes; where the two are one line, one more once.
+fn weigh(weights: &mut [u16; 512], m: u8, row: u8, column: u8, test: bool)
+    ensures { λ _. ⌜ ((l : ℕ) → l < 512 →
+        getD (now (weights .exit)) l 0 ≡ pick ((eqb l row or eqb l (m + column)) and test) (raised (getD (now (weights .entry)) l 0)) (getD (now (weights .entry)) l 0)) ⌝ }
+{
+    let first = wide(row);
+    let second = wide(m) + wide(column);
+    raise_if(weights, first, test);
+    raise_if(weights, second, both_of(test, second != first));
+}
+
+// What is at stake, with each line's untaken nonzeros as its weight.
+pub fn weigh_all(
+    m: u8,
+    n: u8,
+    nonzeros: u16,
+    list: &[u8],
+    marks: &[u8; 512],
+    lean: &[u8; 512],
+    weights: &mut [u16; 512],
+) -> Stakes
+    ensures { λ r. ⌜ WeighsAll (patternOf m n nonzeros (now (list .entry))) (markingIn (now (marks .entry))) (now (lean .entry)) r (now (weights .exit)) ⌝ }
+{
+    clear(weights);
+    let mut zero: u16 = 0;
+    let mut one: u16 = 0;
+    let mut conflicts: u16 = 0;
+    let mut t: u16 = 0;
+    while t < nonzeros {
+        let row = row_of(list, t);
+        let column = column_of(list, t);
+        let free = untaken_by(marks, m, row, column);
+        let first = leans_by(lean, m, row, column, 0);
+        let second = leans_by(lean, m, row, column, 1);
+        let conflict = conflict_by(lean, m, row, column);
+        weigh(weights, m, row, column, free);
+        zero = zero + bit_of(both_of(free, first));
+        one = one + bit_of(both_of(free, second));
+        conflicts = conflicts + bit_of(conflict);
+        t = t + 1;
+    }
+    Stakes {
+        zero,
+        one,
+        conflicts,
+    }
+}
