@@ -1,0 +1,182 @@
+-- Laws of the evaluation: its parts, a marking that is not valid, and what an accepted list gives.
+-- Assumes nothing.
+use mathlib.Core.Bool.{Bool, true, false}
+use mathlib.Core.List.{List, [], _∷_}
+use mathlib.Core.Path.{_≡_, refl, sym, _∙_, ap}
+use mathlib.Core.Logic.{⊎-elim}
+use Prim.Native.Nat.{ℕ, zero, suc, _+_, _-_, _≤_, _<_, max}
+use native.Mathlib.Nat.{max-eq-left, max-eq-right}
+use native.Mathlib.Omega.{arith}
+use lib.Dec.{eqb, ltb}
+use lib.ListN.{length, getD}
+use borrow.Author.Tests.{ltb-true, eqb-true}
+use Rattle.counting.specs.Tests.{_and_, _or_}
+use Rattle.counting.proofs.Joined.{no-way, clash, or-cases, and-left}
+use Rattle.model.specs.declared.Part.the-variants.{Zero, One}
+use Rattle.model.specs.declared.Verdict.the-variants.{Accepted}
+use Rattle.model.specs.Pattern.{Pattern, Inside, patternOf, lines, rowIn, columnIn}
+use Rattle.model.specs.Marking.{Marking, unmarked, place, marking, taken, valid}
+use Rattle.model.specs.Bound.{L1, L2, L3, L4, bound}
+use Rattle.model.specs.State.{arrayOf}
+use Rattle.model.specs.Calls.{rises, listVerdict}
+use Rattle.model.proofs.Theorems.Accepted.{ListFine, list-accepted, accepted-inside}
+use Rattle.matching.specs.Starts.{rowStart}
+use Rattle.marking.specs.Marks.{markBy, markFor}
+use Rattle.marking.proofs.Ordered.{lines-of, mark-first, mark-rest}
+use Rattle.marking.proofs.Marked.{mark-by-is}
+use Rattle.weighing.specs.declared.taking.Taken.{Taken}
+use Rattle.weighing.specs.declared.leaning.Kinds.{Kinds}
+use Rattle.weighing.specs.Cells.{markingIn}
+use Rattle.weighing.specs.Taking.{TakesAll, validBy}
+use Rattle.weighing.specs.Leaning.{conditionIn, LeansAll}
+use Rattle.weighing.proofs.Taken.{valid-by}
+use Rattle.weighing.proofs.Leans.{cut-is-L1, torn-is-L2, lean-leans}
+use Rattle.bound.specs.declared.Evaluation.{Evaluation}
+use Rattle.bound.specs.declared.lower.Lower.{Lower}
+use Rattle.bound.specs.Evaluated.{Listed, Placed, TakenOn, LeansAt, Lowered, Parts, Evaluates}
+
+-- the bound of a valid marking
+pub bound-sum :
+    {P : Pattern} {cap : ℕ} {μ : Marking} {t : Taken} {k : Kinds} {l : Lower} (x : ℕ) →
+    Parts P cap μ t k l → x ≡ k .cut + k .torn + max (l .struck) (l .matched) → x ≡ bound P cap μ
+unfolding bound
+bound-sum x p e = e ∙ rw (p .cut-is, p .torn-is, p .struck-is, p .matched-is)
+
+-- the larger of two, where the second is not the smaller, and where the first is not
+pub sum-second : (cut torn x y r : ℕ) → x ≤ y → r ≡ cut + torn + y → r ≡ cut + torn + max x y
+sum-second cut torn x y r h e = omega (arith, max-eq-right h)
+
+pub sum-first : (cut torn x y r : ℕ) → y ≤ x → r ≡ cut + torn + x → r ≡ cut + torn + max x y
+sum-first cut torn x y r h e = omega (arith, max-eq-left h)
+
+-- a marking that is not valid: nothing is said of its bound
+pub not-valid :
+    (P : Pattern) (cap : ℕ) (μ : Marking) (t : Taken) (zero₀ one₀ zero₁ one₁ : List ℕ) (r : Evaluation) →
+    TakesAll P μ t zero₀ one₀ zero₁ one₁ → validBy t cap ≡ false →
+    r .valid ≡ false → r .zero ≡ t .zero → r .one ≡ t .one → Evaluates P cap μ r
+not-valid P cap μ t zero₀ one₀ zero₁ one₁ r k v e z o =
+    record {
+      valid-is = e ∙ sym v ∙ valid-by cap k;
+      zero-is = z ∙ k .zero-is;
+      one-is = o ∙ k .one-is;
+      cut-is = λ h. clash h e;
+      torn-is = λ h. clash h e;
+      struck-is = λ h. clash h e;
+      matched-is = λ h. clash h e;
+      bound-is = λ h. clash h e;
+    }
+
+module _ (m n nonzeros : ℕ) (list marks : List ℕ) {t : Taken} {by-zero by-one : List ℕ} (few : m + n < 512) (k : TakenOn (patternOf m n nonzeros list) (markingIn marks) t by-zero by-one) {s : Kinds} {lean₀ lean₁ : List ℕ} (h : LeansAll (conditionIn marks by-zero by-one) (m + n) s lean₀ lean₁) where
+  lines-few : lines (patternOf m n nonzeros list) < 512
+  lines-few = omega (arith, lines-of m n nonzeros list)
+
+  lean-all : LeansAll (conditionIn marks by-zero by-one) (lines (patternOf m n nonzeros list)) s lean₀ lean₁
+  lean-all = rw (lines-of m n nonzeros list) h
+
+  -- how lines lean, by the array
+  pub leans-at : LeansAt (patternOf m n nonzeros list) (markingIn marks) lean₁
+  leans-at = lean-leans marks (k .zero-clear) (k .one-clear) (k .takes-all) lines-few lean-all
+
+  -- the parts of the evaluation
+  pub parts-are :
+      (cap zero-room one-room : ℕ) (l : Lower) → validBy t cap ≡ true →
+      zero-room ≡ cap - t .zero → one-room ≡ cap - t .one →
+      Lowered (patternOf m n nonzeros list) (markingIn marks) zero-room one-room l →
+      Parts (patternOf m n nonzeros list) cap (markingIn marks) t s l
+  parts-are cap zero-room one-room l v ez eo low =
+      record {
+        valid-is = sym (valid-by cap (k .takes-all)) ∙ v;
+        zero-is = k .takes-all .zero-is;
+        one-is = k .takes-all .one-is;
+        cut-is = cut-is-L1 marks (k .zero-clear) (k .one-clear) (k .takes-all) lines-few lean-all;
+        torn-is = torn-is-L2 marks (k .zero-clear) (k .one-clear) (k .takes-all) lines-few lean-all;
+        struck-is = low .struck-is
+            cap
+            (ez ∙ ap (λ (d : ℕ). cap - d) (k .takes-all .zero-is))
+            (eo ∙ ap (λ (d : ℕ). cap - d) (k .takes-all .one-is));
+        matched-is = low .matched-is;
+      }
+
+-- within a list it does not matter what stands past its end
+same-default : (xs : List ℕ) (l a b : ℕ) → l < length xs → getD xs l a ≡ getD xs l b
+same-default [] l a b h = no-way (omega arith)
+same-default (x ∷ xs) zero a b h = refl
+same-default (x ∷ xs) (suc l) a b h = same-default xs l a b (omega arith)
+
+-- where a list has a number above 0, it goes on that far
+reaches : (xs : List ℕ) (l x : ℕ) → getD xs l 0 ≡ suc x → l < length xs
+reaches [] l x h = no-way (omega (arith, h))
+reaches (y ∷ ys) zero x h = omega arith
+reaches (y ∷ ys) (suc l) x h = omega (arith, reaches ys l x h)
+
+-- the mark of each line, by its place
+pub marked-line :
+    (total : ℕ) (places marks entries earlier : List ℕ) (len : ℕ) → total < 512 →
+    ((l : ℕ) → l < 512 → getD earlier l 0 ≡ unmarked) →
+    ((l : ℕ) → l < 512 → getD entries l 0 ≡ markFor total places marks len earlier l) →
+    (l : ℕ) → l < total → markingIn entries l ≡ markBy marks len (getD places l 0)
+unfolding markingIn
+marked-line total places marks entries earlier len few none e l b =
+    let last : 511 < length entries =
+    reaches
+    entries
+    511
+    2
+    (e 511 (omega arith) ∙ mark-rest total places marks len earlier 511 (omega arith) ∙ none 511 (omega arith)) in
+    same-default entries l unmarked 0 (omega arith)
+    ∙ e l (omega arith)
+    ∙ mark-first total places marks len earlier l b
+
+-- the marks by line are those of the marking
+pub by-line :
+    (m n nonzeros : ℕ) (list places marks entries : List ℕ) (len : ℕ) →
+    ((l : ℕ) → l < m + n → markingIn entries l ≡ markBy marks len (getD places l 0)) →
+    Placed (patternOf m n nonzeros list) places →
+    (τ : List ℕ) → length τ ≤ 240 → marks ≡ arrayOf τ → len ≡ length τ →
+    (l : ℕ) → l < lines (patternOf m n nonzeros list) →
+    markingIn entries l ≡ marking (patternOf m n nonzeros list) τ l
+unfolding marking
+by-line m n nonzeros list places marks entries len e k τ short em el l b =
+    let P = patternOf m n nonzeros list in
+    let c : l < m + n = omega (arith, lines-of m n nonzeros list) in
+    e l c
+    ∙ ap (markBy marks len) (k .placed l b)
+    ∙ ap (λ (xs : List ℕ). markBy xs len (place P l)) em
+    ∙ ap (λ (d : ℕ). markBy (arrayOf τ) d (place P l)) el
+    ∙ mark-by-is τ (place P l) short
+
+-- an accepted list, with where its rows start
+rises-rows : (list : List ℕ) (t : ℕ) → rises list (suc t) ≡ true → rowIn list t ≤ rowIn list (suc t)
+unfolding rises
+rises-rows list t h =
+    ⊎-elim
+    (λ e. omega (arith, ltb-true (rowIn list t) (rowIn list (suc t)) e))
+    (λ e. omega (
+      arith,
+      eqb-true
+          (rowIn list t)
+          (rowIn list (suc t))
+          (and-left
+          (eqb (rowIn list t) (rowIn list (suc t)))
+          (ltb (columnIn list t) (columnIn list (suc t)))
+          e),
+    ))
+    (or-cases
+    (ltb (rowIn list t) (rowIn list (suc t)))
+    (eqb (rowIn list t) (rowIn list (suc t)) and ltb (columnIn list t) (columnIn list (suc t)))
+    h)
+
+pub accepted-listed :
+    (m n nonzeros : ℕ) (list starts : List ℕ) → listVerdict m n nonzeros list ≡ Accepted →
+    ((m n i : ℕ) → i ≤ 256 → getD starts i 0 ≡ rowStart (patternOf m n nonzeros list) i) →
+    Listed m n nonzeros list starts
+accepted-listed m n nonzeros list starts h s =
+    let fine = list-accepted m n nonzeros list h in
+    record {
+      rows-small = fine .rows-to;
+      columns-small = fine .columns-to;
+      small = fine .size-to;
+      inside = accepted-inside m n nonzeros list h;
+      rising = λ t b. rises-rows list t (fine .rising (suc t) b);
+      started = s m n;
+    }

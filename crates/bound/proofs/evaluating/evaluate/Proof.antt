@@ -1,0 +1,48 @@
+-- `bound::evaluating::evaluate` meets its contract.
+-- Assumes nothing.
+use borrow.Author.Needs.{needs}
+use Rattle.model.specs.Pattern.{patternOf}
+use Rattle.model.specs.Marking.{marking}
+use Rattle.weighing.specs.Cells.{markingIn}
+use Rattle.bound.proofs.Same.{evaluates-same}
+use Rattle.bound.proofs.Evaluations.{by-line}
+use Rattle.bound.proofs.evaluating.evaluate.Statement.{statement}
+use Rattle.bound.proofs.evaluating.evaluate.Tie as tie
+
+marks-of-requires : tie.Need-marks-of-requires
+marks-of-requires c κs = search needs
+
+evaluate-lines-requires : tie.Need-evaluate-lines-requires
+evaluate-lines-requires c κs = search needs
+
+returns : tie.Need-returns
+returns c = λ k placed τ short em el.
+    let f = c .before .before in
+    let a = f .before .before .args in
+    let entries = f .marks-of .result in
+    evaluates-same
+    (patternOf (a .m) (a .n) (a .nonzeros) (a .list .now))
+    (markingIn entries)
+    (marking (patternOf (a .m) (a .n) (a .nonzeros) (a .list .now)) τ)
+    (k .inside)
+    (by-line
+    (a .m)
+    (a .n)
+    (a .nonzeros)
+    (a .list .now)
+    (a .places .now)
+    (a .marks .now)
+    entries
+    (a .len)
+    (f .marks-of .ensures)
+    placed
+    τ
+    short
+    em
+    el)
+    (a .cap)
+    (c .evaluate-lines .result)
+    (c .evaluate-lines .ensures k)
+
+pub evaluate-spec : {M : Type 1} → statement M
+evaluate-spec = tie.close (tie.spec marks-of-requires evaluate-lines-requires returns)

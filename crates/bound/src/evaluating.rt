@@ -1,0 +1,165 @@
+// The evaluation of a marking, by line and by trail.
+use crate::Evaluation;
+use crate::fresh::no_leanings;
+use crate::fresh::no_lines;
+use crate::fresh::no_marks;
+use crate::lower::Lower;
+use crate::lower::lower_of;
+use crate::lower::room_of;
+use crate::tables::lines_of;
+use marking::marks::marks_by_line;
+use pattern::reading::long16;
+use weighing::leaning::Kinds;
+use weighing::leaning::lean_all;
+use weighing::taking::Taken;
+use weighing::taking::is_valid;
+use weighing::taking::take_all;
+ghost use mathlib.Core.Bool.{true, false};
+ghost use mathlib.Core.List.{List};
+ghost use mathlib.Core.Path.{_≡_};
+ghost use Prim.Native.Nat.{ℕ, _+_, _≤_, _<_};
+ghost use lib.ListN.{length, getD};
+ghost use Rattle.model.specs.Pattern.{Pattern, patternOf};
+ghost use Rattle.model.specs.Marking.{Marking, marking};
+ghost use Rattle.model.specs.State.{arrayOf};
+ghost use Rattle.marking.specs.Marks.{markBy};
+ghost use Rattle.weighing.specs.Cells.{markingIn, Cleared};
+ghost use Rattle.weighing.specs.Taking.{TakesAll, validBy};
+ghost use Rattle.bound.specs.Evaluated.{Listed, Placed, TakenOn, Parts, Evaluates};
+
+// The evaluation of a marking that is not valid.
+fn invalid(taken: Taken) -> Evaluation
+    ensures { λ r. ⌜ (r .valid ≡ false) × (r .zero ≡ taken .zero) × (r .one ≡ taken .one) ⌝ }
+{
+    Evaluation {
+        valid: false,
+        zero: taken.zero,
+        one: taken.one,
+        cut: 0,
+        torn: 0,
+        struck: 0,
+        matched: 0,
+        bound: 0,
+    }
+}
+
+// The evaluation of a valid marking: the bound is L1 + L2 + the larger of L3 and L4.
+fn joined(taken: Taken, kinds: Kinds, lower: Lower) -> Evaluation
+    requires { ⌜ lower .matched ≤ 255 ⌝ }
+    ensures { λ r. ⌜ ((P : Pattern) (cap : ℕ) (μ : Marking) → Parts P cap μ taken kinds lower → Evaluates P cap μ r) ⌝ }
+{
+    let struck = long16(lower.struck);
+    let matched = lower.matched;
+    let more = if struck < matched { matched } else { struck };
+    let sure = long16(kinds.cut) + long16(kinds.torn);
+    Evaluation {
+        valid: true,
+        zero: taken.zero,
+        one: taken.one,
+        cut: kinds.cut,
+        torn: kinds.torn,
+        struck: lower.struck,
+        matched,
+        bound: sure + more,
+    }
+}
+
+// The evaluation of a valid marking, from what it takes.
+fn evaluate_valid(
+    m: u8,
+    n: u8,
+    nonzeros: u16,
+    list: &[u8],
+    cap: u64,
+    starts: &[u16; 257],
+    marks: &[u8; 512],
+    taken: Taken,
+    by_zero: &[u8; 512],
+    by_one: &[u8; 512],
+) -> Evaluation
+    ensures { λ r. ⌜ (Listed m n nonzeros (now (list .entry)) (now (starts .entry)) →
+        TakenOn (patternOf m n nonzeros (now (list .entry))) (markingIn (now (marks .entry))) taken (now («by_zero» .entry)) (now («by_one» .entry)) →
+        validBy taken cap ≡ true →
+        Evaluates (patternOf m n nonzeros (now (list .entry))) cap (markingIn (now (marks .entry))) r) ⌝ }
+{
+    let mut lean = no_leanings();
+    let kinds = lean_all(m, n, marks, by_zero, by_one, &mut lean);
+    let zero_room = room_of(cap, taken.zero);
+    let one_room = room_of(cap, taken.one);
+    let lower = lower_of(
+        m,
+        n,
+        nonzeros,
+        list,
+        zero_room,
+        one_room,
+        starts,
+        marks,
+        &lean,
+    );
+    joined(taken, kinds, lower)
+}
+
+// The evaluation of a marking, given by the mark of each line: 0, 1, 2 for cut, 3 for none.
+pub fn evaluate_lines(
+    m: u8,
+    n: u8,
+    nonzeros: u16,
+    list: &[u8],
+    cap: u64,
+    starts: &[u16; 257],
+    marks: &[u8; 512],
+) -> Evaluation
+    ensures { λ r. ⌜ (Listed m n nonzeros (now (list .entry)) (now (starts .entry)) →
+        Evaluates (patternOf m n nonzeros (now (list .entry))) cap (markingIn (now (marks .entry))) r) ⌝ }
+{
+    let mut by_zero = no_lines();
+    let mut by_one = no_lines();
+    let taken = take_all(m, n, nonzeros, list, marks, &mut by_zero, &mut by_one);
+    if is_valid(taken, cap) {
+        evaluate_valid(
+            m,
+            n,
+            nonzeros,
+            list,
+            cap,
+            starts,
+            marks,
+            taken,
+            &by_zero,
+            &by_one,
+        )
+    } else {
+        invalid(taken)
+    }
+}
+
+// The mark of each line, from the marks of the first lines in order.
+pub fn marks_of(m: u8, n: u8, places: &[u16; 512], marks: &[u8; 240], len: usize) -> [u8; 512]
+    ensures { λ r. ⌜ ((l : ℕ) → l < m + n → markingIn r l ≡ markBy (now (marks .entry)) len (getD (now (places .entry)) l 0)) ⌝ }
+{
+    let mut by_line = no_marks();
+    marks_by_line(lines_of(m, n), places, marks, len, &mut by_line);
+    by_line
+}
+
+// The evaluation of a marking of the first lines in order, given by their marks.
+pub fn evaluate(
+    m: u8,
+    n: u8,
+    nonzeros: u16,
+    list: &[u8],
+    cap: u64,
+    places: &[u16; 512],
+    starts: &[u16; 257],
+    marks: &[u8; 240],
+    len: usize,
+) -> Evaluation
+    ensures { λ r. ⌜ (Listed m n nonzeros (now (list .entry)) (now (starts .entry)) →
+        Placed (patternOf m n nonzeros (now (list .entry))) (now (places .entry)) →
+        (τ : List ℕ) → length τ ≤ 240 → now (marks .entry) ≡ arrayOf τ → len ≡ length τ →
+        Evaluates (patternOf m n nonzeros (now (list .entry))) cap (marking (patternOf m n nonzeros (now (list .entry))) τ) r) ⌝ }
+{
+    let by_line = marks_of(m, n, places, marks, len);
+    evaluate_lines(m, n, nonzeros, list, cap, starts, &by_line)
+}

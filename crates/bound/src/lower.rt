@@ -1,0 +1,68 @@
+// L3 and L4, from how lines lean.
+use marking::order::no_counts;
+use matching::search::matching_size;
+use weighing::striking::strike;
+use weighing::weights::weigh_all;
+ghost use mathlib.Core.Path.{_≡_};
+ghost use Prim.Native.Nat.{_-_, _≤_};
+ghost use lib.Dec.{eqb};
+ghost use Rattle.counting.specs.Tests.{pick};
+ghost use Rattle.model.specs.Pattern.{patternOf};
+ghost use Rattle.weighing.specs.Cells.{markingIn};
+ghost use Rattle.matching.specs.Search.{ground, searchSize};
+ghost use Rattle.bound.specs.Evaluated.{Listed, LeansAt, Lowered};
+
+// L3 and L4.
+pub struct Lower {
+    pub struck: u16,
+    pub matched: u64,
+}
+
+// The room that a part has left below the cap.
+pub fn room_of(cap: u64, taken: u16) -> u64
+    ensures { λ r. ⌜ r ≡ cap - taken ⌝ }
+{
+    let t = taken as u64;
+    if t < cap { cap - t } else { 0 }
+}
+
+// L4: without conflicts it is 0.
+fn matched_of(m: u8, lean: &[u8; 512], list: &[u8], starts: &[u16; 257], conflicts: u16) -> u64
+    ensures { λ r. ⌜ (r ≡ pick (eqb conflicts 0) 0 (searchSize (ground (now (lean .entry)) m (now (list .entry)) (now (starts .entry)))))
+        × (r ≤ 255) ⌝ }
+{
+    if conflicts == 0 {
+        return 0;
+    }
+    matching_size(m, lean, list, starts)
+}
+
+// L3 and L4, with the room that each part has left.
+pub fn lower_of(
+    m: u8,
+    n: u8,
+    nonzeros: u16,
+    list: &[u8],
+    zero_room: u64,
+    one_room: u64,
+    starts: &[u16; 257],
+    marks: &[u8; 512],
+    lean: &[u8; 512],
+) -> Lower
+    ensures { λ r. ⌜ (r .matched ≤ 255) × (Listed m n nonzeros (now (list .entry)) (now (starts .entry)) →
+        LeansAt (patternOf m n nonzeros (now (list .entry))) (markingIn (now (marks .entry))) (now (lean .entry)) →
+        Lowered (patternOf m n nonzeros (now (list .entry))) (markingIn (now (marks .entry))) «zero_room» «one_room» r) ⌝ }
+{
+    let mut weights = no_counts();
+    let stakes = weigh_all(m, n, nonzeros, list, marks, lean, &mut weights);
+    let zero_stake = stakes.zero;
+    let one_stake = stakes.one;
+    let conflicts = stakes.conflicts;
+    let zero = strike(m, n, lean, &weights, 0, zero_stake, zero_room);
+    let one = strike(m, n, lean, &weights, 1, one_stake, one_room);
+    let matched = matched_of(m, lean, list, starts, conflicts);
+    Lower {
+        struck: zero + one,
+        matched,
+    }
+}

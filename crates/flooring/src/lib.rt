@@ -1,0 +1,2 @@
+// The least bound over the open markings of a search.
+pub mod least;
