@@ -85,6 +85,10 @@ unfolding _or_
 or-right true h = refl
 or-right false h = h
 
+pub or-passed : {a : Bool} (b : Bool) → a ≡ false → a or b ≡ b
+unfolding _or_
+or-passed b h = rw h
+
 pub or-cases : (a b : Bool) → a or b ≡ true → (a ≡ true) ⊎ (b ≡ true)
 unfolding _or_
 or-cases true b h = inl refl

@@ -81,7 +81,7 @@ step-going R r after-going = go (r .complete) refl
     go false going = (going, ap (λ (s : Record). s .tries) (step-tries R r going) ∙ try-counts R r)
 
 -- a walk makes at most as many tries as it is given
-walk-counts : (R : Rules) (tries : ℕ) (r : Record) → walk R tries r .tries ≤ r .tries + tries
+pub walk-counts : (R : Rules) (tries : ℕ) (r : Record) → walk R tries r .tries ≤ r .tries + tries
 unfolding walk
 walk-counts R zero r = omega arith
 walk-counts R (suc tries) r =
@@ -97,7 +97,7 @@ walk-going R (suc tries) r going =
     omega (arith, now .1, walk-going R tries r (now .0))
 
 -- a fresh record has no tries
-fresh-tries : (m n nonzeros cap k : ℕ) → fresh m n nonzeros cap k .tries ≡ 0
+pub fresh-tries : (m n nonzeros cap k : ℕ) → fresh m n nonzeros cap k .tries ≡ 0
 unfolding fresh
 fresh-tries m n nonzeros cap zero = refl
 fresh-tries m n nonzeros cap (suc k) = refl

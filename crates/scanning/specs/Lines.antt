@@ -1,0 +1,61 @@
+-- Document 01, 'Texts': lines, by the offset of their first byte; empty lines, comments, and where the size line is.
+-- Assumes nothing.
+use mathlib.Core.Bool.{Bool, true, false}
+use mathlib.Core.List.{List}
+use Prim.Native.Nat.{ℕ, zero, suc, _+_, _-_}
+use lib.Dec.{eqb, ltb}
+use lib.ListN.{length, getD}
+use Rattle.counting.specs.Tests.{_and_, _or_, pick}
+use Rattle.scanning.specs.declared.Run.{Run}
+use Rattle.scanning.specs.declared.Run.the-variants.{Line, Blanks}
+use Rattle.scanning.specs.Classes.{classOf, isPercent, goesOn}
+
+-- the first number from `at` on that fails the test, looking at so many
+unfoldable pub past : (ℕ → Bool) → ℕ → ℕ → ℕ
+past test at zero = at
+past test at (suc k) = pick (test at) (past test (at + 1) k) at
+
+-- a run goes on over the byte at a place
+unfoldable pub runsAt : Run → List ℕ → ℕ → Bool
+runsAt run text at = goesOn run (classOf (getD text at 0))
+
+-- where a run that starts at a place ends, with `stop` as its end at the latest
+unfoldable pub runEnd : Run → List ℕ → ℕ → ℕ → ℕ
+runEnd run text at stop = past (runsAt run text) at (stop - at)
+
+-- lines end in LF; the last may lack it
+unfoldable pub lineStop : List ℕ → ℕ → ℕ
+lineStop text at = runEnd Line text at (length text)
+
+-- a CR just before the LF at `stop`, in the line that starts at `at`
+unfoldable pub hasReturn : List ℕ → ℕ → ℕ → Bool
+hasReturn text at stop = ltb stop (length text) and (ltb at stop and eqb (getD text (stop - 1) 0) 13)
+
+-- where a line ends: a CR just before LF is dropped
+unfoldable pub lineEnd : List ℕ → ℕ → ℕ
+lineEnd text at =
+    let stop = lineStop text at in
+    pick (hasReturn text at stop) (stop - 1) stop
+
+-- the offset of the next line's first byte, or the text's length
+unfoldable pub lineNext : List ℕ → ℕ → ℕ
+lineNext text at =
+    let stop = lineStop text at in
+    pick (ltb stop (length text)) (stop + 1) stop
+
+-- empty: a line of nothing but blanks
+unfoldable pub emptyLine : List ℕ → ℕ → Bool
+emptyLine text at = eqb (runEnd Blanks text at (lineEnd text at)) (lineEnd text at)
+
+-- comment: a line starting with %
+unfoldable pub isComment : List ℕ → ℕ → Bool
+isComment text at = isPercent (classOf (getD text at 0))
+
+-- skipped before the size line: empty lines and comments
+unfoldable pub skipped : List ℕ → ℕ → Bool
+skipped text at = ltb at (length text) and (emptyLine text at or isComment text at)
+
+-- the first line from `at` on that is not skipped, or the text's length, looking at so many lines
+unfoldable pub sizeLineAt : List ℕ → ℕ → ℕ → ℕ
+sizeLineAt text zero at = at
+sizeLineAt text (suc k) at = pick (skipped text at) (sizeLineAt text k (lineNext text at)) at

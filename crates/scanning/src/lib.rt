@@ -1,0 +1,45 @@
+// Matrix Market texts below the level of what a line means: byte classes, lines, words, numbers, and checks as values.
+
+pub mod classes;
+pub mod lines;
+pub mod tests;
+pub mod words;
+
+// The class of a byte.
+pub enum Class {
+    Digit,
+    Blank,
+    Letter,
+    Percent,
+    LineEnd,
+    Other,
+}
+
+// A run of bytes: up to the line's end, of blanks, of anything but blanks, or of digits.
+pub enum Run {
+    Line,
+    Blanks,
+    Nonblanks,
+    Digits,
+}
+
+// The next word of a line: where it starts and where it stops.
+pub struct Span {
+    pub from: usize,
+    pub stop: usize,
+}
+
+// The next word of a line as a number, and where it stops.
+pub struct Number {
+    pub fine: bool,
+    pub value: u32,
+    pub stop: usize,
+}
+
+// The numbers of a line, two or three.
+pub struct Numbers {
+    pub fine: bool,
+    pub first: u32,
+    pub second: u32,
+    pub third: u32,
+}

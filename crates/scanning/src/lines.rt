@@ -1,0 +1,124 @@
+// Lines of a text, by the offset of their first byte. Past the end of a text every byte is 0.
+use crate::Run;
+use crate::classes::class_of;
+use crate::classes::goes_on;
+use crate::classes::is_percent;
+use pattern::reading::byte_at;
+ghost use mathlib.Core.Path.{_≡_};
+ghost use Prim.Native.Nat.{_-_};
+ghost use lib.ListN.{length};
+ghost use Rattle.scanning.specs.Lines.{runsAt, runEnd, lineStop, hasReturn, lineEnd, lineNext, emptyLine, isComment, skipped, sizeLineAt};
+
+// The difference of two numbers, and 0 where it would fall below.
+pub fn less(x: usize, y: usize) -> usize
+    ensures { λ r. ⌜ r ≡ x - y ⌝ }
+{
+    if x < y { 0 } else { x - y }
+}
+
+// A run goes on over the byte at a place.
+pub fn runs_at(text: &[u8], run: Run, at: usize) -> bool
+    ensures { λ r. ⌜ r ≡ runsAt run (now (text .entry)) at ⌝ }
+{
+    let b = byte_at(text, at);
+    let c = class_of(b);
+    goes_on(run, c)
+}
+
+// Where a run that starts at a place ends, with `stop` as its end at the latest.
+pub fn run_end(text: &[u8], run: Run, at: usize, stop: usize) -> usize
+    ensures { λ r. ⌜ r ≡ runEnd run (now (text .entry)) at stop ⌝ }
+{
+    let mut i = at;
+    while i < stop {
+        let on = runs_at(text, run, i);
+        if !on {
+            return i;
+        }
+        i += 1;
+    }
+    i
+}
+
+// Where the line that starts at a place meets its LF, or the text's end.
+pub fn line_stop(text: &[u8], at: usize) -> usize
+    ensures { λ r. ⌜ r ≡ lineStop (now (text .entry)) at ⌝ }
+{
+    let len = text.len();
+    run_end(text, Run::Line, at, len)
+}
+
+// A CR stands just before the LF of the line that starts at a place.
+pub fn has_return(text: &[u8], at: usize, stop: usize) -> bool
+    ensures { λ r. ⌜ r ≡ hasReturn (now (text .entry)) at stop ⌝ }
+{
+    if text.len() <= stop {
+        return false;
+    }
+    if stop <= at {
+        return false;
+    }
+    let last = less(stop, 1);
+    byte_at(text, last) == 13
+}
+
+// Where a line ends, once the CR just before its LF is dropped.
+pub fn line_end(text: &[u8], at: usize) -> usize
+    ensures { λ r. ⌜ r ≡ lineEnd (now (text .entry)) at ⌝ }
+{
+    let stop = line_stop(text, at);
+    if has_return(text, at, stop) {
+        less(stop, 1)
+    } else {
+        stop
+    }
+}
+
+// The offset of the next line's first byte.
+pub fn line_next(text: &[u8], at: usize) -> usize
+    ensures { λ r. ⌜ r ≡ lineNext (now (text .entry)) at ⌝ }
+{
+    let stop = line_stop(text, at);
+    if stop < text.len() { stop + 1 } else { stop }
+}
+
+// Nothing but blanks.
+pub fn is_empty(text: &[u8], at: usize) -> bool
+    ensures { λ r. ⌜ r ≡ emptyLine (now (text .entry)) at ⌝ }
+{
+    let end = line_end(text, at);
+    let blanks = run_end(text, Run::Blanks, at, end);
+    blanks == end
+}
+
+// A comment: its very first byte is a percent sign.
+pub fn is_comment(text: &[u8], at: usize) -> bool
+    ensures { λ r. ⌜ r ≡ isComment (now (text .entry)) at ⌝ }
+{
+    let b = byte_at(text, at);
+    let c = class_of(b);
+    is_percent(c)
+}
+
+// A line that is skipped before the size line: an empty one or a comment.
+pub fn is_skipped(text: &[u8], at: usize) -> bool
+    ensures { λ r. ⌜ r ≡ skipped (now (text .entry)) at ⌝ }
+{
+    if text.len() <= at {
+        return false;
+    }
+    let empty = is_empty(text, at);
+    let comment = is_comment(text, at);
+    if empty { true } else { comment }
+}
+
+// The first line from a place on that is neither empty nor a comment, or the text's end.
+pub fn size_line_at(text: &[u8], at: usize) -> usize
+    ensures { λ r. ⌜ r ≡ sizeLineAt (now (text .entry)) (length (now (text .entry))) at ⌝ }
+{
+    let mut i = at;
+    while is_skipped(text, i) {
+        i = line_next(text, i);
+    }
+    i
+}

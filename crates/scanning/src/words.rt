@@ -1,0 +1,131 @@
+// Words and numbers of a line.
+use crate::Number;
+use crate::Numbers;
+use crate::Run;
+use crate::Span;
+use crate::classes::digit_of;
+use crate::classes::in_case;
+use crate::lines::less;
+use crate::lines::run_end;
+use pattern::reading::byte_at;
+use pattern::splits::both;
+ghost use mathlib.Core.Path.{_≡_};
+ghost use lib.Dec.{eqb};
+ghost use lib.ListN.{getD};
+ghost use Rattle.scanning.specs.Classes.{cased};
+ghost use Rattle.scanning.specs.Words.{wordAt, sameWord, isNumber, numberValue, numberAt, endsAt, numbersAt};
+
+// The next word of a line that ends at `end`.
+pub fn word_at(text: &[u8], at: usize, end: usize) -> Span
+    ensures { λ r. ⌜ r ≡ wordAt (now (text .entry)) at end ⌝ }
+{
+    let from = run_end(text, Run::Blanks, at, end);
+    let stop = run_end(text, Run::Nonblanks, from, end);
+    Span { from, stop }
+}
+
+// The byte at a place is this one, in any letter case or in this one.
+pub fn is_byte(text: &[u8], at: usize, any: bool, b: u8) -> bool
+    ensures { λ r. ⌜ r ≡ eqb (cased any (getD (now (text .entry)) at 0)) b ⌝ }
+{
+    let found = byte_at(text, at);
+    in_case(any, found) == b
+}
+
+// The bytes between two places spell a word.
+pub fn same_word(text: &[u8], from: usize, stop: usize, any: bool, spelling: &[u8]) -> bool
+    ensures { λ r. ⌜ r ≡ sameWord (now (text .entry)) from stop any (now (spelling .entry)) ⌝ }
+{
+    let len = less(stop, from);
+    if len != spelling.len() {
+        return false;
+    }
+    let mut i: usize = 0;
+    while i < spelling.len() {
+        let same = is_byte(text, from + i, any, spelling[i]);
+        if !same {
+            return false;
+        }
+        i += 1;
+    }
+    true
+}
+
+// A number: 1 to 9 digits.
+pub fn is_number(text: &[u8], from: usize, stop: usize) -> bool
+    ensures { λ r. ⌜ r ≡ isNumber (now (text .entry)) from stop ⌝ }
+{
+    if stop <= from {
+        return false;
+    }
+    if 9 < less(stop, from) {
+        return false;
+    }
+    run_end(text, Run::Digits, from, stop) == stop
+}
+
+// The value of a number, and 0 where there is none.
+pub fn number_value(text: &[u8], from: usize, stop: usize) -> u32
+    ensures { λ r. ⌜ r ≡ numberValue (now (text .entry)) from stop ⌝ }
+{
+    if !is_number(text, from, stop) {
+        return 0;
+    }
+    let len = less(stop, from);
+    let mut value: u32 = 0;
+    let mut k: usize = 0;
+    while k < len {
+        let b = byte_at(text, from + k);
+        value = value * 10 + (digit_of(b) as u32);
+        k += 1;
+    }
+    value
+}
+
+// The next word of a line as a number.
+pub fn number_at(text: &[u8], at: usize, end: usize) -> Number
+    ensures { λ r. ⌜ r ≡ numberAt (now (text .entry)) at end ⌝ }
+{
+    let word = word_at(text, at, end);
+    let fine = is_number(text, word.from, word.stop);
+    let value = number_value(text, word.from, word.stop);
+    Number {
+        fine,
+        value,
+        stop: word.stop,
+    }
+}
+
+// No word is left.
+pub fn ends_at(text: &[u8], at: usize, end: usize) -> bool
+    ensures { λ r. ⌜ r ≡ endsAt (now (text .entry)) at end ⌝ }
+{
+    run_end(text, Run::Blanks, at, end) == end
+}
+
+// The numbers of a line, three or two.
+pub fn numbers_at(text: &[u8], at: usize, end: usize, three: bool) -> Numbers
+    ensures { λ r. ⌜ r ≡ numbersAt (now (text .entry)) at end three ⌝ }
+{
+    let a = number_at(text, at, end);
+    let b = number_at(text, a.stop, end);
+    let c = number_at(text, b.stop, end);
+    let two = both(a.fine, b.fine);
+    if three {
+        let last = ends_at(text, c.stop, end);
+        let more = both(c.fine, last);
+        return Numbers {
+            fine: both(two, more),
+            first: a.value,
+            second: b.value,
+            third: c.value,
+        };
+    }
+    let last = ends_at(text, b.stop, end);
+    Numbers {
+        fine: both(two, last),
+        first: a.value,
+        second: b.value,
+        third: 1,
+    }
+}

@@ -1,0 +1,54 @@
+-- A search holds a record and gives it back: the record read off the search of a record is that record.
+-- Assumes nothing.
+use mathlib.Core.Bool.{Bool, true, false}
+use mathlib.Core.List.{List, []}
+use mathlib.Core.Option.{Option, some, none}
+use mathlib.Core.Path.{_≡_, refl, sym, _∙_, ap}
+use Prim.Native.Nat.{ℕ, zero, suc, _+_, _*_, _≤_}
+use native.Mathlib.Omega.{arith}
+use lib.ListN.{length}
+use Rattle.counting.proofs.Counted.{count-most}
+use Rattle.model.specs.declared.Search.{Search}
+use Rattle.model.specs.Limits.{lineLimit}
+use Rattle.model.specs.Pattern.{Pattern, lines, nonempty, lineTotal}
+use Rattle.model.specs.Walk.{Record, Rules, rulesOf, freshOf, walked}
+use Rattle.model.specs.State.{stack, marksIn, bestIn, recordOf, trailOf, isFound, bestOr, searchOf}
+use Rattle.model.proofs.State.Arrays.{array-stack}
+use Rattle.model.proofs.Walk.Legal.{Orderly, BestIs, walk-orderly}
+use Rattle.model.proofs.Walk.Sound.{Sound, empty-valid}
+
+-- a marking in an array reads back
+marks-back : (τ : List ℕ) → length τ ≤ 2 * lineLimit → marksIn (trailOf τ) ≡ τ
+unfolding marksIn trailOf
+marks-back τ h = array-stack τ h
+
+-- a best marking, or none, reads back
+best-back :
+    (o : Option (List ℕ)) → ((τ : List ℕ) → o ≡ some τ → length τ ≤ 2 * lineLimit) →
+    bestIn (isFound o) (trailOf (bestOr o)) ≡ o
+unfolding bestIn isFound bestOr
+best-back none h = refl
+best-back (some τ) h = ap some (marks-back τ (h τ refl))
+
+-- a record whose markings fit reads back
+pub record-back :
+    (r : Record) → length (r .trail) ≤ 2 * lineLimit →
+    ((τ : List ℕ) → r .best ≡ some τ → length τ ≤ 2 * lineLimit) → recordOf (searchOf r) ≡ r
+unfolding recordOf searchOf
+record-back r short best =
+    λ i. record {
+      m = r .m;
+      n = r .n;
+      nonzeros = r .nonzeros;
+      cap = r .cap;
+      tries = r .tries;
+      bestCount = r .bestCount;
+      best = best-back (r .best) best i;
+      complete = r .complete;
+      trail = marks-back (r .trail) short i;
+    }
+
+-- a pattern of at most 120 rows and 120 columns has at most 240 lines with nonzeros
+pub few-lines : (P : Pattern) → P .m ≤ lineLimit → P .n ≤ lineLimit → lineTotal P ≤ 2 * lineLimit
+unfolding lineTotal lines
+few-lines P h g = omega (arith, count-most (nonempty P) (lines P))

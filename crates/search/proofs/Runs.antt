@@ -1,0 +1,85 @@
+-- Laws of a run: markings keep within their arrays, and so many tries lead to the walk's search.
+-- Assumes nothing.
+use mathlib.Core.Bool.{Bool, true, false}
+use mathlib.Core.List.{List, _∷_}
+use mathlib.Core.Logic.{_⊎_, inl, inr, ⊎-elim}
+use mathlib.Core.Option.{Option, some, none}
+use mathlib.Core.Path.{_≡_, refl, sym, _∙_, ap}
+use Prim.Native.Nat.{ℕ, zero, suc, _+_, _-_, _≤_, _<_}
+use native.Mathlib.Numerals.{add-one}
+use native.Mathlib.Omega.{arith}
+use lib.ListN.{length}
+use Rattle.model.specs.declared.Search.{Search}
+use Rattle.model.specs.Walk.{Record, Rules, advance, tried, improved, tryOnce, step, walk}
+use Rattle.model.specs.State.{recordOf, searchOf}
+use Rattle.model.proofs.Walk.Steps.{try-keeps, step-tries, walk-keeps, walk-adds, complete-stays}
+use Rattle.model.proofs.Walk.Left.{advance-length}
+use Rattle.search.specs.Ready.{Fits}
+use Rattle.search.proofs.Held.{record-back}
+
+-- a try keeps it so
+try-fits : (R : Rules) (r : Record) → Fits (R .k) r → Fits (R .k) (tryOnce R r)
+unfolding tried improved
+try-fits R r f =
+    try-keeps
+    R
+    r
+    (λ s. Fits (R .k) s)
+    (λ up room. record { trail-fits = room; best-fits = f .best-fits })
+    (λ up long. record {
+      trail-fits = omega (arith, f .trail-fits, advance-length (r .trail));
+      best-fits = λ τ e. omega (arith, f .trail-fits, ap length (some-same e));
+    })
+    (λ down. record {
+      trail-fits = omega (arith, f .trail-fits, advance-length (r .trail));
+      best-fits = f .best-fits;
+    })
+  where
+    some-same : {a b : List ℕ} → _≡_ {A = Option (List ℕ)} (some a) (some b) → a ≡ b
+    some-same e = cc
+
+pub walk-fits : (R : Rules) (tries : ℕ) (r : Record) → Fits (R .k) r → Fits (R .k) (walk R tries r)
+walk-fits R tries r f = walk-keeps R (λ s. Fits (R .k) s) (λ s going g. try-fits R s g) tries r f
+
+-- a record that fits reads back off its search
+pub fits-back : (k : ℕ) (r : Record) → k ≤ 240 → Fits k r → recordOf (searchOf r) ≡ r
+fits-back k r small f =
+    record-back r (omega (arith, f .trail-fits)) (λ τ e. omega (arith, f .best-fits τ e))
+
+-- one try more of a walk that is not complete
+pub walk-more :
+    (R : Rules) (i : ℕ) (r : Record) → walk R i r .complete ≡ false → tryOnce R (walk R i r) ≡ walk R (i + 1) r
+unfolding walk
+walk-more R i r going = sym (ap (λ (j : ℕ). walk R j r) (add-one i) ∙ step-tries R (walk R i r) going)
+
+-- a walk that has made its tries, or is complete
+pub walk-done :
+    (R : Rules) (i budget : ℕ) (r : Record) → i ≤ budget → (budget ≤ i) ⊎ (walk R i r .complete ≡ true) →
+    walk R i r ≡ walk R budget r
+walk-done R i budget r b (inl h) =
+    let e : i ≡ budget = omega arith in
+    ap (λ (j : ℕ). walk R j r) e
+walk-done R i budget r b (inr done) =
+    let e : budget ≡ i + (budget - i) = omega arith in
+    sym (ap (λ (j : ℕ). walk R j r) e ∙ walk-adds R i (budget - i) r ∙ complete-stays R (budget - i) (walk R i r) done)
+
+-- a walk keeps the cap
+pub walk-cap : (R : Rules) (i : ℕ) (r : Record) → walk R i r .cap ≡ r .cap
+unfolding tried improved
+walk-cap R i r =
+    walk-keeps
+    R
+    (λ s. s .cap ≡ r .cap)
+    (λ s going e. try-keeps R s (λ t. t .cap ≡ r .cap) (λ up room. e) (λ up long. e) (λ down. e))
+    i
+    r
+    refl
+
+-- what is read off the search of a record
+pub search-cap : (r : Record) → searchOf r .cap ≡ r .cap
+unfolding searchOf
+search-cap r = refl
+
+pub search-complete : (r : Record) → searchOf r .complete ≡ r .complete
+unfolding searchOf
+search-complete r = refl

@@ -1,0 +1,53 @@
+-- `search::try_once` meets its contract.
+-- Assumes nothing.
+use mathlib.Core.Path.{_≡_, sym, _∙_, ap}
+use mathlib.Core.Bool.{Bool}
+use Prim.Native.Nat.{ℕ}
+use lib.Dec.{ltb}
+use Rattle.search.specs.Trying.{outcomeBy}
+use Rattle.search.specs.Ready.{standsBy}
+use Rattle.search.proofs.Tries.{outcome-tries}
+use Rattle.search.proofs.TryLaws.{try-is}
+use borrow.Author.Needs.{needs}
+use Rattle.search.proofs.trying.try_once.Statement.{statement}
+use Rattle.search.proofs.trying.try_once.Tie as tie
+
+evaluate-requires : tie.Need-evaluate-requires
+evaluate-requires c κs = search needs
+
+judged-stands-requires : tie.Need-judged-stands-requires
+judged-stands-requires c κs = search needs
+
+wide16-requires : tie.Need-wide16-requires
+wide16-requires c κs = search needs
+
+outcome-requires : tie.Need-outcome-requires
+outcome-requires c κs = search needs
+
+returns : tie.Need-returns
+returns c =
+    let a = c .before .before .before .before .before .before .before .before .args in (
+      outcome-tries _ _ (a .search) _ (c .outcome .ensures),
+      try-is
+          (a .m)
+          (a .n)
+          (a .nonzeros)
+          (a .list .now)
+          (a .places .now)
+          (a .starts .now)
+          (a .k)
+          (a .search)
+          (c .before .before .before .evaluate .result)
+          (c .outcome .result)
+          (record {
+            judged = c .before .before .before .evaluate .ensures;
+            ended = c .outcome .ensures
+                ∙ ap (λ (up : Bool). outcomeBy up (ltb (a .search .trail .len) (c .before .wide16 .result)) (a .search)) (c .before .before .judged-stands .ensures)
+                ∙ ap (λ (l : ℕ). outcomeBy (standsBy (c .before .before .before .evaluate .result) (a .search .«best_count»)) (ltb (a .search .trail .len) l) (a .search)) (c .before .wide16 .ensures .0);
+          }),
+    )
+
+pub try-once-spec : {M : Type 1} → statement M
+try-once-spec =
+    tie.close
+    (tie.spec evaluate-requires judged-stands-requires wide16-requires outcome-requires returns)

@@ -1,0 +1,159 @@
+-- Laws of what a reading answers and gives.
+-- Assumes nothing.
+use mathlib.Core.Bool.{Bool, true, false, not}
+use mathlib.Core.List.{List}
+use mathlib.Core.Path.{_≡_, refl, sym, _∙_, ap}
+use Prim.Native.Nat.{ℕ, _*_, _≤_}
+use native.Mathlib.Omega.{arith}
+use lib.Dec.{ltb}
+use lib.ListN.{length}
+use Rattle.counting.specs.Tests.{pick}
+use Rattle.counting.proofs.Joined.{pick-true, pick-false}
+use Rattle.model.specs.declared.Word.{Word}
+use Rattle.model.specs.declared.Verdict.{Verdict}
+use Rattle.model.specs.declared.Verdict.the-variants.{Accepted, Refused}
+use Rattle.model.specs.Limits.{lineLimit}
+use Rattle.model.specs.Refusal.{_then_}
+use Rattle.model.specs.Calls.{sizesVerdict}
+use Rattle.pattern.proofs.Verdicts.{then-accepted, then-refused, then-first, rows-small}
+use Rattle.scanning.specs.Checks.{moved}
+use Rattle.texts.specs.declared.Header.{Header}
+use Rattle.texts.specs.declared.ReadAnswer.{ReadAnswer}
+use Rattle.texts.specs.declared.ReadAnswer.the-variants as read-answer
+use Rattle.texts.specs.Header.{headerOf, headVerdict}
+use Rattle.texts.specs.Entries.{noCells, Entries, entriesFrom}
+use Rattle.texts.specs.Reading.{listed, parted, givenParts, entriesBelow, answerAfter, outputAfter, listAfter, partsAfter, textVerdict, readVerdict, readCall, readList, readParts}
+
+-- the second of two checks that refuse nothing refuses nothing
+then-second : (u v : Verdict) → (u then v) ≡ Accepted → v ≡ Accepted
+unfolding _then_
+then-second Accepted v h = h
+then-second (Refused word place) v h = let z : _≡_ {A = ℕ} 0 1 = cc in absurd (omega arith)
+
+moved-fine : (v : Verdict) (place : ℕ) → moved v place ≡ Accepted → v ≡ Accepted
+unfolding moved
+moved-fine Accepted place h = refl
+moved-fine (Refused word at) place h = let z : _≡_ {A = ℕ} 0 1 = cc in absurd (omega arith)
+
+-- past the checks before the entries, m is in its range
+pub head-sizes :
+    (h : Header) (text list parts : ℕ) → headVerdict h text list parts ≡ Accepted → sizesVerdict (h .m) (h .n) (h .nonzeros) ≡ Accepted
+unfolding headVerdict
+head-sizes h text list parts e =
+    moved-fine (sizesVerdict (h .m) (h .n) (h .nonzeros)) (h .at) (then-second _ _ (then-first _ _ e))
+
+pub head-rows : (h : Header) (text list parts : ℕ) → headVerdict h text list parts ≡ Accepted → h .m ≤ 120
+head-rows h text list parts e = rows-small (h .m) (h .n) (h .nonzeros) (head-sizes h text list parts e)
+
+-- answer and output after a verdict
+output-given : {v : Verdict} (new old : List ℕ) → v ≡ Accepted → outputAfter v new old ≡ new
+unfolding outputAfter
+output-given new old e = rw e
+
+output-kept : {v : Verdict} (word : Word) (place : ℕ) (new old : List ℕ) → v ≡ Refused word place → outputAfter v new old ≡ old
+unfolding outputAfter
+output-kept word place new old e = rw e
+
+answer-read : {v : Verdict} (h : Header) → v ≡ Accepted → answerAfter v h ≡ read-answer.Read (h .m) (h .n) (h .nonzeros) (h .integer)
+unfolding answerAfter
+answer-read h e = rw e
+
+answer-refused : {v : Verdict} (word : Word) (place : ℕ) (h : Header) → v ≡ Refused word place → answerAfter v h ≡ read-answer.Refused word place
+unfolding answerAfter
+answer-refused word place h e = rw e
+
+-- the parts after the cells are given
+pub parts-integer :
+    (h : Header) (cells parts new : List ℕ) (m : ℕ) → h .integer ≡ true → m ≡ h .m → new ≡ parted cells (120 * m) parts → new ≡ givenParts h cells parts
+unfolding givenParts
+parts-integer h cells parts new m i e n =
+    n ∙ ap (λ k. parted cells (120 * k) parts) e ∙ sym (pick-true (parted cells (lineLimit * h .m) parts) parts i)
+
+pub parts-pattern : (h : Header) (cells parts : List ℕ) → h .integer ≡ false → parts ≡ givenParts h cells parts
+unfolding givenParts
+parts-pattern h cells parts i = sym (pick-false (parted cells (lineLimit * h .m) parts) parts i)
+
+-- the entries below the size line, read into a table that starts empty
+module _
+    (text : List ℕ) (h : Header) (start new : List ℕ) (v : Verdict) (s : start ≡ noCells)
+    (e : v ≡ entriesFrom text h (length text) (h .next) 0 start .verdict)
+    (f : new ≡ entriesFrom text h (length text) (h .next) 0 start .cells) where
+  below : entriesFrom text h (length text) (h .next) 0 start ≡ entriesBelow text h
+  unfolding entriesBelow
+  below = ap (entriesFrom text h (length text) (h .next) 0) s
+
+  verdict-is : entriesBelow text h .verdict ≡ v
+  verdict-is = sym (e ∙ ap (λ (x : Entries). x .verdict) below)
+
+  cells-are : new ≡ entriesBelow text h .cells
+  cells-are = f ∙ ap (λ (x : Entries). x .cells) below
+
+  pub below-read : v ≡ Accepted → read-answer.Read (h .m) (h .n) (h .nonzeros) (h .integer) ≡ answerAfter (entriesBelow text h .verdict) h
+  below-read a = sym (answer-read h (verdict-is ∙ a))
+
+  pub below-refused : (word : Word) (place : ℕ) → v ≡ Refused word place → read-answer.Refused word place ≡ answerAfter (entriesBelow text h .verdict) h
+  below-refused word place a = sym (answer-refused word place h (verdict-is ∙ a))
+
+  pub below-list : (list after : List ℕ) → v ≡ Accepted → after ≡ listed new (lineLimit * h .m) list → after ≡ listAfter (entriesBelow text h) h list
+  unfolding listAfter
+  below-list list after a l =
+      l ∙ ap (λ x. listed x (lineLimit * h .m) list) cells-are ∙ sym (output-given _ list (verdict-is ∙ a))
+
+  pub below-parts : (parts after : List ℕ) → v ≡ Accepted → after ≡ givenParts h new parts → after ≡ partsAfter (entriesBelow text h) h parts
+  unfolding partsAfter
+  below-parts parts after a l =
+      l ∙ ap (λ x. givenParts h x parts) cells-are ∙ sym (output-given _ parts (verdict-is ∙ a))
+
+  pub below-list-kept : (list : List ℕ) (word : Word) (place : ℕ) → v ≡ Refused word place → list ≡ listAfter (entriesBelow text h) h list
+  unfolding listAfter
+  below-list-kept list word place a = sym (output-kept word place _ list (verdict-is ∙ a))
+
+  pub below-parts-kept : (parts : List ℕ) (word : Word) (place : ℕ) → v ≡ Refused word place → parts ≡ partsAfter (entriesBelow text h) h parts
+  unfolding partsAfter
+  below-parts-kept parts word place a = sym (output-kept word place _ parts (verdict-is ∙ a))
+
+-- a reading: the checks before the entries, then the entries
+module _
+    (text list parts : List ℕ) (h : Header) (v : Verdict) (e : h ≡ headerOf text)
+    (f : v ≡ headVerdict h (length text) (length list) (length parts)) where
+  text-is : textVerdict text list parts ≡ v
+  unfolding textVerdict
+  text-is = sym (f ∙ ap (λ x. headVerdict x (length text) (length list) (length parts)) e)
+
+  read-is : v ≡ Accepted → readVerdict text list parts ≡ entriesBelow text h .verdict
+  unfolding readVerdict
+  read-is a = then-accepted _ (text-is ∙ a) ∙ ap (λ x. entriesBelow text x .verdict) (sym e)
+
+  read-not : (word : Word) (place : ℕ) → v ≡ Refused word place → readVerdict text list parts ≡ Refused word place
+  unfolding readVerdict
+  read-not word place a = then-refused _ (text-is ∙ a)
+
+  pub read-answer-is : (r : ReadAnswer) → v ≡ Accepted → r ≡ answerAfter (entriesBelow text h .verdict) h → r ≡ readCall text list parts
+  unfolding readCall
+  read-answer-is r a q = q ∙ ap (λ x. answerAfter x h) (sym (read-is a)) ∙ ap (answerAfter (readVerdict text list parts)) e
+
+  pub read-list-is : (new : List ℕ) → v ≡ Accepted → new ≡ listAfter (entriesBelow text h) h list → new ≡ readList text list parts
+  unfolding readList listAfter
+  read-list-is new a q =
+      q
+      ∙ ap (λ x. outputAfter x (listed (entriesBelow text h .cells) (lineLimit * h .m) list) list) (sym (read-is a))
+      ∙ ap (λ x. outputAfter (readVerdict text list parts) (listed (entriesBelow text x .cells) (lineLimit * x .m) list) list) e
+
+  pub read-parts-is : (new : List ℕ) → v ≡ Accepted → new ≡ partsAfter (entriesBelow text h) h parts → new ≡ readParts text list parts
+  unfolding readParts partsAfter
+  read-parts-is new a q =
+      q
+      ∙ ap (λ x. outputAfter x (givenParts h (entriesBelow text h .cells) parts) parts) (sym (read-is a))
+      ∙ ap (λ x. outputAfter (readVerdict text list parts) (givenParts x (entriesBelow text x .cells) parts) parts) e
+
+  pub read-refused : (word : Word) (place : ℕ) → v ≡ Refused word place → read-answer.Refused word place ≡ readCall text list parts
+  unfolding readCall
+  read-refused word place a = sym (answer-refused word place (headerOf text) (read-not word place a))
+
+  pub read-list-kept : (word : Word) (place : ℕ) → v ≡ Refused word place → list ≡ readList text list parts
+  unfolding readList
+  read-list-kept word place a = sym (output-kept word place _ list (read-not word place a))
+
+  pub read-parts-kept : (word : Word) (place : ℕ) → v ≡ Refused word place → parts ≡ readParts text list parts
+  unfolding readParts
+  read-parts-kept word place a = sym (output-kept word place _ parts (read-not word place a))

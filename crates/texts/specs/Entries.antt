@@ -1,0 +1,87 @@
+-- Document 01, 'Texts' and 'Refusal table': the entries in text order, each 3, 5, 8, 6, with 7 for one too many or missing.
+-- Assumes nothing.
+use mathlib.Core.Bool.{Bool, true, false, not}
+use mathlib.Core.List.{List}
+use Prim.Native.Nat.{ℕ, zero, suc, _+_, _-_, _*_}
+use lib.Dec.{eqb, ltb, leb}
+use lib.ListN.{length, getD, set, replicate}
+use Rattle.counting.specs.Tests.{_and_, _or_, pick, bit}
+use Rattle.model.specs.declared.Word.the-variants.{EntryForm, OffMatrix, Repeated, Count, BadPart}
+use Rattle.model.specs.declared.Verdict.{Verdict}
+use Rattle.model.specs.declared.Verdict.the-variants.{Accepted, Refused}
+use Rattle.model.specs.Limits.{lineLimit}
+use Rattle.model.specs.Refusal.{refuse, _then_}
+use Rattle.model.specs.Calls.{outside}
+use Rattle.texts.specs.declared.Header.{Header}
+use Rattle.scanning.specs.declared.Numbers.{Numbers}
+use Rattle.scanning.specs.Lines.{lineEnd, lineNext, emptyLine}
+use Rattle.scanning.specs.Words.{numbersAt}
+
+-- the entry of a line, "i j" or "i j p" for integer
+unfoldable pub entryAt : List ℕ → Header → ℕ → Numbers
+entryAt text h at = numbersAt text at (lineEnd text at) (h .integer)
+
+-- the cell of row i and column j, counted from 1, in a table with lineLimit cells for each row
+unfoldable pub cellOf : ℕ → ℕ → ℕ
+cellOf i j = lineLimit * (i - 1) + (j - 1)
+
+-- a table of cells with nothing given
+unfoldable pub noCells : List ℕ
+noCells = replicate (lineLimit * lineLimit) 0
+
+-- the nonzero of a cell is given
+unfoldable pub isGiven : List ℕ → ℕ → Bool
+isGiven cells p = not (eqb (getD cells p 0) 0)
+
+-- p is 1 for part 0 and 2 for part 1: what stands in the cell of a nonzero that is given
+unfoldable pub cellMark : ℕ → ℕ
+cellMark p = pick (eqb p 1) 1 2
+
+-- 3, 5, 8, 6: the checks of an entry
+unfoldable pub entryCheck : Header → Numbers → ℕ → List ℕ → Verdict
+entryCheck h e place cells =
+    refuse (not (e .fine)) EntryForm place
+    then refuse (outside (h .m) (e .first) or outside (h .n) (e .second)) OffMatrix place
+    then refuse (outside 2 (e .third)) BadPart place
+    then refuse (isGiven cells (cellOf (e .first) (e .second))) Repeated place
+
+-- the checks of a line after the size line, with so many entries before it: an empty line is skipped, a line past the Nth entry is 7
+unfoldable pub lineVerdict : List ℕ → Header → ℕ → ℕ → List ℕ → Verdict
+lineVerdict text h at count cells =
+    pick
+    (emptyLine text at)
+    Accepted
+    (refuse (leb (h .nonzeros) count) Count at then entryCheck h (entryAt text h at) at cells)
+
+-- the cells after a line
+unfoldable pub noted : List ℕ → Header → ℕ → List ℕ → List ℕ
+noted text h at cells =
+    let e = entryAt text h at in
+    pick (emptyLine text at) cells (set cells (cellOf (e .first) (e .second)) (cellMark (e .third)))
+
+-- 7: an entry missing
+unfoldable pub endVerdict : ℕ → Header → ℕ → Verdict
+endVerdict len h count = refuse (ltb count (h .nonzeros)) Count len
+
+-- what reading the entries gives: a verdict, and the cells of the entries accepted
+pub record Entries : Type 0 where
+  pub verdict : Verdict
+  pub cells : List ℕ
+
+-- after a line with this verdict: the first refusal ends the reading
+unfoldable pub after : Verdict → List ℕ → Entries → Entries
+after Accepted cells rest = rest
+after (Refused word place) cells rest = record { verdict = Refused word place; cells = cells }
+
+-- the lines from `at` on, with so many entries before them, looking at so many lines
+unfoldable pub entriesFrom : List ℕ → Header → ℕ → ℕ → ℕ → List ℕ → Entries
+entriesFrom text h zero at count cells =
+    record { verdict = endVerdict (length text) h count; cells = cells }
+entriesFrom text h (suc k) at count cells =
+    pick
+    (ltb at (length text))
+    (after
+    (lineVerdict text h at count cells)
+    cells
+    (entriesFrom text h k (lineNext text at) (count + bit (not (emptyLine text at))) (noted text h at cells)))
+    (record { verdict = endVerdict (length text) h count; cells = cells })

@@ -1,0 +1,4 @@
+pub mod Header
+pub mod Entries
+pub mod Reading
+pub mod Samples

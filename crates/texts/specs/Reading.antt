@@ -1,0 +1,92 @@
+-- Document 01, 'Texts': what reading a text gives, for any text and any slices.
+-- Assumes nothing.
+use mathlib.Core.Bool.{Bool, true, false}
+use mathlib.Core.List.{List}
+use Prim.Native.Nat.{ℕ, zero, suc, _+_, _-_, _*_, _/_, _%_}
+use lib.ListN.{length, getD, set}
+use Rattle.counting.specs.Tests.{pick}
+use Rattle.counting.specs.Sums.{count}
+use Rattle.model.specs.declared.Verdict.{Verdict}
+use Rattle.model.specs.declared.Verdict.the-variants.{Accepted, Refused}
+use Rattle.model.specs.Limits.{lineLimit}
+use Rattle.model.specs.Refusal.{_then_}
+use Rattle.model.specs.Pattern.{entryBytes}
+use Rattle.texts.specs.declared.Header.{Header}
+use Rattle.texts.specs.declared.ReadAnswer.{ReadAnswer}
+use Rattle.texts.specs.declared.ReadAnswer.the-variants as read-answer
+use Rattle.texts.specs.Header.{headerOf, headVerdict}
+use Rattle.texts.specs.Entries.{noCells, isGiven, Entries, entriesFrom}
+
+-- a list's row and column byte for nonzero t, where cell p gives it
+unfoldable pub listCell : List ℕ → ℕ → ℕ → ℕ → ℕ → List ℕ → List ℕ
+listCell cells p t row column list =
+    pick (isGiven cells p) (set (set list (entryBytes * t) row) (entryBytes * t + 1) column) list
+
+-- a part byte for nonzero t, where cell p gives it
+unfoldable pub partCell : List ℕ → ℕ → ℕ → List ℕ → List ℕ
+partCell cells p t parts = pick (isGiven cells p) (set parts t (getD cells p 0 - 1)) parts
+
+-- the list: the nonzeros of the first cells, by row and then column; other bytes stay
+unfoldable pub listed : List ℕ → ℕ → List ℕ → List ℕ
+listed cells zero list = list
+listed cells (suc p) list =
+    listCell cells p (count (isGiven cells) p) (p / lineLimit) (p % lineLimit) (listed cells p list)
+
+-- the parts of the same nonzeros; other bytes stay
+unfoldable pub parted : List ℕ → ℕ → List ℕ → List ℕ
+parted cells zero parts = parts
+parted cells (suc p) parts = partCell cells p (count (isGiven cells) p) (parted cells p parts)
+
+-- the parts for integer; for pattern they keep their contents
+unfoldable pub givenParts : Header → List ℕ → List ℕ → List ℕ
+givenParts h cells parts = pick (h .integer) (parted cells (lineLimit * h .m) parts) parts
+
+-- the entries below the size line
+unfoldable pub entriesBelow : List ℕ → Header → Entries
+entriesBelow text h = entriesFrom text h (length text) (h .next) 0 noCells
+
+-- what a reading answers, after this verdict
+unfoldable pub answerAfter : Verdict → Header → ReadAnswer
+answerAfter Accepted h = read-answer.Read (h .m) (h .n) (h .nonzeros) (h .integer)
+answerAfter (Refused word place) h = read-answer.Refused word place
+
+-- output only where nothing is refused
+unfoldable pub outputAfter : Verdict → List ℕ → List ℕ → List ℕ
+outputAfter Accepted new old = new
+outputAfter (Refused word place) new old = old
+
+-- the list's bytes after these entries
+unfoldable pub listAfter : Entries → Header → List ℕ → List ℕ
+listAfter e h list = outputAfter (e .verdict) (listed (e .cells) (lineLimit * h .m) list) list
+
+-- the parts' bytes after these entries
+unfoldable pub partsAfter : Entries → Header → List ℕ → List ℕ
+partsAfter e h parts = outputAfter (e .verdict) (givenParts h (e .cells) parts) parts
+
+-- the checks before the entries, of a text and slices
+unfoldable pub textVerdict : List ℕ → List ℕ → List ℕ → Verdict
+textVerdict text list parts = headVerdict (headerOf text) (length text) (length list) (length parts)
+
+-- the checks of a text: length, 1, 2, 4, 9, then the entries
+unfoldable pub readVerdict : List ℕ → List ℕ → List ℕ → Verdict
+readVerdict text list parts = textVerdict text list parts then entriesBelow text (headerOf text) .verdict
+
+-- what a reading answers
+unfoldable pub readCall : List ℕ → List ℕ → List ℕ → ReadAnswer
+readCall text list parts = answerAfter (readVerdict text list parts) (headerOf text)
+
+-- the list's bytes after a reading
+unfoldable pub readList : List ℕ → List ℕ → List ℕ → List ℕ
+readList text list parts =
+    outputAfter
+    (readVerdict text list parts)
+    (listed (entriesBelow text (headerOf text) .cells) (lineLimit * headerOf text .m) list)
+    list
+
+-- the parts' bytes after a reading
+unfoldable pub readParts : List ℕ → List ℕ → List ℕ → List ℕ
+readParts text list parts =
+    outputAfter
+    (readVerdict text list parts)
+    (givenParts (headerOf text) (entriesBelow text (headerOf text) .cells) parts)
+    parts

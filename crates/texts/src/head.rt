@@ -1,0 +1,100 @@
+// The first line and the size line.
+use crate::Banner;
+use crate::Header;
+use model::Verdict;
+use model::Word;
+use pattern::checks::and_then;
+use pattern::checks::sizes_verdict;
+use pattern::splits::both;
+use scanning::Run;
+use scanning::lines::line_end;
+use scanning::lines::line_next;
+use scanning::lines::run_end;
+use scanning::lines::size_line_at;
+use scanning::tests::either;
+use scanning::tests::move_to;
+use scanning::tests::refuse_if;
+use scanning::tests::refuse_unless;
+use scanning::tests::wide32;
+use scanning::words::ends_at;
+use scanning::words::numbers_at;
+use scanning::words::same_word;
+use scanning::words::word_at;
+ghost use mathlib.Core.Path.{_≡_};
+ghost use lib.ListN.{length};
+ghost use Rattle.texts.specs.Header.{bannerAt, headerOf, short, headVerdict};
+
+// The first line, which ends at `end`.
+pub fn banner_at(text: &[u8], end: usize) -> Banner
+    ensures { λ r. ⌜ r ≡ bannerAt (now (text .entry)) end ⌝ }
+{
+    let stop = run_end(text, Run::Nonblanks, 0, end);
+    let mark = same_word(text, 0, stop, false, b"%%MatrixMarket");
+    let a = word_at(text, stop, end);
+    let matrix = same_word(text, a.from, a.stop, true, b"matrix");
+    let b = word_at(text, a.stop, end);
+    let coordinate = same_word(text, b.from, b.stop, true, b"coordinate");
+    let f = word_at(text, b.stop, end);
+    let pattern = same_word(text, f.from, f.stop, true, b"pattern");
+    let integer = same_word(text, f.from, f.stop, true, b"integer");
+    let g = word_at(text, f.stop, end);
+    let general = same_word(text, g.from, g.stop, true, b"general");
+    let last = ends_at(text, g.stop, end);
+    let object = both(mark, matrix);
+    let format = both(coordinate, either(pattern, integer));
+    let rest = both(general, last);
+    Banner {
+        fine: both(object, both(format, rest)),
+        integer,
+    }
+}
+
+// What stands before the entries.
+pub fn header_of(text: &[u8]) -> Header
+    ensures { λ r. ⌜ r ≡ headerOf (now (text .entry)) ⌝ }
+{
+    let end = line_end(text, 0);
+    let banner = banner_at(text, end);
+    let second = line_next(text, 0);
+    let at = size_line_at(text, second);
+    let stop = line_end(text, at);
+    let sizes = numbers_at(text, at, stop, true);
+    let next = line_next(text, at);
+    Header {
+        fine: banner.fine,
+        integer: banner.integer,
+        sized: sizes.fine,
+        m: sizes.first,
+        n: sizes.second,
+        nonzeros: sizes.third,
+        at,
+        next,
+    }
+}
+
+// The list slice has under 2 × N bytes, or for integer the parts slice under N.
+pub fn is_short(header: Header, list: usize, parts: usize) -> bool
+    ensures { λ r. ⌜ r ≡ short header list parts ⌝ }
+{
+    let needed = wide32(header.nonzeros);
+    let listed = list < 2 * needed;
+    let parted = both(header.integer, parts < needed);
+    either(listed, parted)
+}
+
+// The checks before the entries: 4 for the text, 1, 2, 4, 9.
+pub fn head_verdict(header: Header, text: usize, list: usize, parts: usize) -> Verdict
+    ensures { λ r. ⌜ r ≡ headVerdict header text list parts ⌝ }
+{
+    let place = header.at as u64;
+    let length = refuse_if(65536 < text, Word::TooBig, 0);
+    let banner = refuse_unless(header.fine, Word::Banner, 0);
+    let line = refuse_unless(header.sized, Word::SizeLine, place);
+    let sizes = sizes_verdict(header.m as u64, header.n as u64, header.nonzeros as u64);
+    let big = move_to(sizes, place);
+    let room = refuse_if(is_short(header, list, parts), Word::ShortBuffer, 0);
+    let first = and_then(length, banner);
+    let second = and_then(first, line);
+    let third = and_then(second, big);
+    and_then(third, room)
+}
