@@ -9,5 +9,7 @@ pub mod RunLaws
 pub mod States
 pub mod StateLaws
 pub mod Validities
+pub mod Budgets
+pub mod Answered
 pub mod Normal
 pub mod Demand3

@@ -4,10 +4,14 @@ use mathlib.Core.Bool.{Bool, false}
 use mathlib.Core.List.{List}
 use mathlib.Core.Option.{some}
 use mathlib.Core.Path.{_≡_}
-use Prim.Native.Nat.{ℕ, _≤_}
+use Prim.Native.Nat.{ℕ, _+_, _≤_}
 use lib.Dec.{ltb}
 use lib.ListN.{length}
-use Rattle.counting.specs.Tests.{_and_}
+use Rattle.counting.specs.Tests.{_and_, _or_}
+use Rattle.model.specs.declared.Word.the-variants.{Budget}
+use Rattle.model.specs.declared.Verdict.{Verdict}
+use Rattle.model.specs.Limits.{budgetLimit, triesLimit}
+use Rattle.model.specs.Refusal.{refuse}
 use Rattle.model.specs.Pattern.{patternOf, lineTotal}
 use Rattle.model.specs.Walk.{Record}
 use Rattle.bound.specs.declared.Evaluation.{Evaluation}
@@ -28,3 +32,7 @@ pub record Fits (k : ℕ) (r : Record) : Type 0 where
 -- an evaluated trail stands against a best count
 unfoldable pub standsBy : Evaluation → ℕ → Bool
 standsBy judged best = judged .valid and ltb (judged .bound) best
+
+-- 13: over a call's range, or tries + budget over the limit
+unfoldable pub budgetBy : ℕ → ℕ → Verdict
+budgetBy tries budget = refuse (ltb budgetLimit budget or ltb triesLimit (tries + budget)) Budget 0

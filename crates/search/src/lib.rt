@@ -3,4 +3,4 @@ pub mod holding;
 pub mod legal;
 pub mod opening;
 pub mod state;
-mod trying;
+pub mod trying;

@@ -1,14 +1,23 @@
 // Tries: what one does to a search, and so many in a run.
 use crate::holding::cleared;
+use crate::holding::normal;
+use crate::opening::line_total;
 use crate::state::best_fine;
 use crate::state::numbers_fine;
 use crate::state::trail_fine;
 use bound::Evaluation;
 use bound::evaluating::evaluate;
+use bound::tables::places;
 use marking::trail::Stack;
 use marking::trail::mark_at;
+use matching::starts::row_starts;
+use model::Ran;
+use model::RunAnswer;
 use model::Search;
 use model::Trail;
+use model::Verdict;
+use model::Word;
+use pattern::checks::list_verdict;
 use pattern::reading::wide16;
 use weighing::cells::both_of;
 ghost use mathlib.Core.Path.{_≡_};
@@ -17,12 +26,15 @@ ghost use lib.Dec.{ltb};
 ghost use mathlib.Core.Bool.{not};
 ghost use Rattle.counting.specs.Tests.{_and_};
 ghost use Rattle.model.specs.Limits.{triesLimit};
+ghost use Rattle.model.specs.declared.Verdict.the-variants.{Accepted};
 ghost use Rattle.model.specs.Pattern.{patternOf};
 ghost use Rattle.model.specs.Walk.{Record, rulesOf, tryOnce, walk};
 ghost use Rattle.model.specs.Marking.{marking, valid};
 ghost use Rattle.model.specs.State.{marksIn, recordOf, searchOf, stateFine};
+ghost use Rattle.model.specs.Calls.{listVerdict, ended, ranAfter, runCall};
+ghost use Rattle.search.specs.Holding.{normalOf};
 ghost use Rattle.bound.specs.Evaluated.{Listed, Placed};
-ghost use Rattle.search.specs.Ready.{Fits, Ready, standsBy};
+ghost use Rattle.search.specs.Ready.{Fits, Ready, standsBy, budgetBy};
 ghost use Rattle.search.specs.Trying.{shorter, stackIn, trailBack, cutsIn, triedBy, improvedBy, outcomeBy};
 
 // A trail as a stack.
@@ -247,4 +259,120 @@ pub fn state_fine(
     let trail = trail_fine(search.trail, search.complete, wide16(k), begins);
     let best = best_fine(search, k, full);
     both_of(both_of(numbers, trail), best)
+}
+
+// 13: over a call's range, or tries + budget over the limit.
+pub fn budget_verdict(tries: u64, budget: u64) -> Verdict
+    ensures { λ r. ⌜ r ≡ budgetBy tries budget ⌝ }
+{
+    if 1_000_000 < budget {
+        return Verdict::Refused(Word::Budget, 0);
+    }
+    if 1_000_000_000_000_000 < tries {
+        return Verdict::Refused(Word::Budget, 0);
+    }
+    if 1_000_000_000_000_000 < tries + budget {
+        return Verdict::Refused(Word::Budget, 0);
+    }
+    Verdict::Accepted
+}
+
+// Complete, or stopped otherwise.
+pub fn ended_as(complete: bool) -> RunAnswer
+    ensures { λ r. ⌜ r ≡ ended complete ⌝ }
+{
+    if complete {
+        return RunAnswer::Complete;
+    }
+    RunAnswer::Stopped
+}
+
+// A run of a state that is not refused.
+fn run_fine(
+    search: Search,
+    rows: u8,
+    columns: u8,
+    size: u16,
+    list: &[u8],
+    places: &[u16; 512],
+    starts: &[u16; 257],
+    k: u16,
+    budget: u64,
+) -> Ran
+    ensures { λ a. ⌜ (Ready rows columns size (now (list .entry)) (now (places .entry)) (now (starts .entry)) k →
+        Fits k (recordOf search) → normalOf search ≡ searchOf (recordOf search) →
+        a ≡ ranAfter (budgetBy (search .tries) budget) search (patternOf rows columns size (now (list .entry))) budget) ⌝ }
+{
+    let verdict = budget_verdict(search.tries, budget);
+    match verdict {
+        Verdict::Accepted => {
+            let from = normal(search);
+            let after = run_from(from, rows, columns, size, list, places, starts, k, budget);
+            let answer = ended_as(after.complete);
+            Ran {
+                answer,
+                search: after,
+            }
+        }
+        Verdict::Refused(word, place) => Ran {
+            answer: RunAnswer::Refused(word, place),
+            search,
+        },
+    }
+}
+
+// A run on a list that is accepted.
+fn run_listed(search: Search, m: u64, n: u64, nonzeros: u64, list: &[u8], budget: u64) -> Ran
+    requires { ⌜ listVerdict m n nonzeros (now list) ≡ Accepted ⌝ }
+    ensures { λ a. ⌜ a ≡ runCall search m n nonzeros (now (list .entry)) budget ⌝ }
+{
+    let rows = m as u8;
+    let columns = n as u8;
+    let size = nonzeros as u16;
+    let places = places(rows, columns, size, list);
+    let starts = row_starts(list, size);
+    let k = line_total(rows, columns, size, list);
+    if state_fine(
+        search,
+        m,
+        n,
+        nonzeros,
+        rows,
+        columns,
+        size,
+        list,
+        &places,
+        &starts,
+        k,
+    ) {
+        return run_fine(
+            search,
+            rows,
+            columns,
+            size,
+            list,
+            &places,
+            &starts,
+            k,
+            budget,
+        );
+    }
+    Ran {
+        answer: RunAnswer::Refused(Word::State, 0),
+        search,
+    }
+}
+
+// Makes a budget of tries, or fewer only because the search became complete.
+pub fn run(search: Search, m: u64, n: u64, nonzeros: u64, list: &[u8], budget: u64) -> Ran
+    ensures { λ a. ⌜ a ≡ runCall search m n nonzeros (now (list .entry)) budget ⌝ }
+{
+    let listed = list_verdict(m, n, nonzeros, list);
+    match listed {
+        Verdict::Accepted => run_listed(search, m, n, nonzeros, list, budget),
+        Verdict::Refused(word, place) => Ran {
+            answer: RunAnswer::Refused(word, place),
+            search,
+        },
+    }
 }

@@ -1,0 +1,86 @@
+-- Laws of what the writer answers and leaves.
+-- Assumes nothing.
+use mathlib.Core.Bool.{Bool, true, false}
+use mathlib.Core.List.{List}
+use mathlib.Core.Path.{_≡_, refl, sym, _∙_, ap}
+use Prim.Native.Nat.{ℕ, _*_, _≤_, _<_}
+use native.Mathlib.Omega.{arith}
+use lib.Dec.{ltb}
+use lib.ListN.{length}
+use lib.Seq.{sets}
+use borrow.Author.Tests.{lt-ltb, le-ltb}
+use Rattle.counting.specs.Tests.{_or_, pick}
+use Rattle.counting.proofs.Joined.{pick-true, pick-false}
+use Rattle.model.specs.declared.Word.{Word}
+use Rattle.model.specs.declared.Word.the-variants.{ShortBuffer}
+use Rattle.model.specs.declared.Verdict.{Verdict}
+use Rattle.model.specs.declared.Verdict.the-variants.{Accepted, Refused}
+use Rattle.model.specs.Refusal.{refuse, _then_}
+use Rattle.model.specs.Calls.{sizesVerdict}
+use Rattle.pattern.specs.Checks.{eachVerdict}
+use Rattle.pattern.proofs.Verdicts.{then-accepted, then-refused, then-first, nonzeros-small}
+use Rattle.writing.specs.declared.Figures.{Figures}
+use Rattle.writing.specs.declared.WriteAnswer.{WriteAnswer}
+use Rattle.writing.specs.declared.WriteAnswer.the-variants as write-answer
+use Rattle.writing.specs.Written.{Puts, textOf}
+use Rattle.writing.specs.Writing.{nonzeroVerdict, writeVerdict, lengthAnswer, textOut, answerAfter, outAfter, writeCall, writeOut}
+
+-- the checks one after another
+module _ (m n nonzeros : ℕ) (list parts : List ℕ) where
+  pub verdict-by :
+      (short : Bool) (room each r : Verdict) → sizesVerdict m n nonzeros ≡ Accepted →
+      short ≡ (ltb (length list) (2 * nonzeros) or ltb (length parts) nonzeros) → room ≡ refuse short ShortBuffer 0 →
+      each ≡ eachVerdict (nonzeroVerdict m n list parts) nonzeros → r ≡ (room then each) → r ≡ writeVerdict m n nonzeros list parts
+  unfolding writeVerdict
+  verdict-by short room each r h e1 e2 e3 e4 = e4 ∙ rw (e3, e2, e1) (sym (then-accepted _ h))
+
+  pub verdict-refused :
+      (word : Word) (place : ℕ) → sizesVerdict m n nonzeros ≡ Refused word place → Refused word place ≡ writeVerdict m n nonzeros list parts
+  unfolding writeVerdict
+  verdict-refused word place h = sym (then-refused _ h)
+
+  pub write-nonzeros : writeVerdict m n nonzeros list parts ≡ Accepted → nonzeros ≤ 2000
+  unfolding writeVerdict
+  write-nonzeros h = nonzeros-small m n nonzeros (then-first _ _ h)
+
+-- the output has no room, or it has
+module _ (text out : List ℕ) where
+  pub no-room : (needed : ℕ) → needed ≡ length text → length out < needed → write-answer.Refused ShortBuffer 0 ≡ lengthAnswer text out
+  unfolding lengthAnswer
+  no-room needed e l = sym (pick-true _ _ (lt-ltb (length out) (length text) (omega arith)))
+
+  pub no-room-out : (needed : ℕ) → needed ≡ length text → length out < needed → out ≡ textOut text out
+  unfolding textOut
+  no-room-out needed e l = sym (pick-true out _ (lt-ltb (length out) (length text) (omega arith)))
+
+  pub room-answer :
+      (needed next : ℕ) (new : List ℕ) → needed ≡ length text → needed ≤ length out → Puts out 0 text new next → write-answer.Written next ≡ lengthAnswer text out
+  unfolding lengthAnswer
+  room-answer needed next new e l p =
+      let q : next ≡ length text = omega (arith, p .after) in
+      ap (λ x. write-answer.Written x) q ∙ sym (pick-false _ _ (le-ltb (length out) (length text) (omega arith)))
+
+  pub room-out :
+      (needed next : ℕ) (new : List ℕ) → needed ≡ length text → needed ≤ length out → Puts out 0 text new next → new ≡ textOut text out
+  unfolding textOut
+  room-out needed next new e l p = p .bytes ∙ sym (pick-false out _ (le-ltb (length out) (length text) (omega arith)))
+
+-- a writing
+module _ (m n nonzeros : ℕ) (list parts : List ℕ) (f : Figures) (out : List ℕ) (v : Verdict) (e : v ≡ writeVerdict m n nonzeros list parts) where
+  pub write-answer-is :
+      (r : WriteAnswer) → v ≡ Accepted → r ≡ lengthAnswer (textOf m n nonzeros list parts f) out → r ≡ writeCall m n nonzeros list parts f out
+  unfolding writeCall answerAfter
+  write-answer-is r a q = q ∙ sym (ap (λ x. answerAfter x (textOf m n nonzeros list parts f) out) (sym e ∙ a))
+
+  pub write-out-is :
+      (new : List ℕ) → v ≡ Accepted → new ≡ textOut (textOf m n nonzeros list parts f) out → new ≡ writeOut m n nonzeros list parts f out
+  unfolding writeOut outAfter
+  write-out-is new a q = q ∙ sym (ap (λ x. outAfter x (textOf m n nonzeros list parts f) out) (sym e ∙ a))
+
+  pub write-refused : (word : Word) (place : ℕ) → v ≡ Refused word place → write-answer.Refused word place ≡ writeCall m n nonzeros list parts f out
+  unfolding writeCall answerAfter
+  write-refused word place a = sym (ap (λ x. answerAfter x (textOf m n nonzeros list parts f) out) (sym e ∙ a))
+
+  pub write-out-kept : (word : Word) (place : ℕ) → v ≡ Refused word place → out ≡ writeOut m n nonzeros list parts f out
+  unfolding writeOut outAfter
+  write-out-kept word place a = sym (ap (λ x. outAfter x (textOf m n nonzeros list parts f) out) (sym e ∙ a))

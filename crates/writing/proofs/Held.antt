@@ -1,0 +1,235 @@
+-- What a text holds from a place on, and how runs and numbers go over it: the ground for reading back what was written.
+-- Assumes nothing.
+use mathlib.Core.Bool.{Bool, true, false, not}
+use mathlib.Core.List.{List, [], _∷_, _++_}
+use mathlib.Core.Path.{_≡_, refl, sym, _∙_, ap}
+use Prim.Native.Nat.{ℕ, zero, suc, _+_, _-_, _*_, _/_, _%_, _^_, _≤_, _<_}
+use native.Mathlib.Nat.{mod-lt, div-add-mod', pow-suc, pow-zero}
+use native.Mathlib.Numerals.{add-one}
+use native.Mathlib.Omega.{arith}
+use lib.Dec.{eqb, ltb, leb}
+use lib.ListN.{length, getD, length-append, List·getD-append}
+use lib.Seq.{getD-append-add}
+use borrow.Author.Tests.{ltb-true, ltb-false, lt-ltb, le-ltb, le-leb, lt-leb, eq-eqb, ne-eqb}
+use Rattle.counting.specs.Tests.{_and_, _or_, pick}
+use Rattle.counting.proofs.Joined.{by-test, no-way, and-left, and-right, and-intro, pick-true, pick-false}
+use Rattle.scanning.specs.declared.Class.{Class}
+use Rattle.scanning.specs.declared.Class.the-variants.{Digit, Blank, LineEnd}
+use Rattle.scanning.specs.declared.Run.{Run}
+use Rattle.scanning.specs.declared.Run.the-variants.{Blanks, Nonblanks, Digits}
+use Rattle.scanning.specs.declared.Number.{Number}
+use Rattle.scanning.specs.Classes.{between, classOf, goesOn, digitOf}
+use Rattle.scanning.specs.Lines.{runsAt, runEnd}
+use Rattle.scanning.specs.Words.{isNumber, valueOf, numberValue, wordAt, numberAt}
+use Rattle.scanning.proofs.Scans.{between-in, run-on, run-over, value-more, value-some}
+use Rattle.writing.specs.Written.{decimals}
+
+-- a text holds these bytes from a place on
+pub record Holds (text : List ℕ) (at : ℕ) (bytes : List ℕ) : Type 0 where
+  pub at-each : (i : ℕ) → i < length bytes → getD text (at + i) 0 ≡ getD bytes i 0
+
+pub holds-left : (s t : List ℕ) {text : List ℕ} {at : ℕ} → Holds text at (s ++ t) → Holds text at s
+holds-left s t {text} {at} h =
+    record {
+      at-each = λ i l. h .at-each i (omega (arith, length-append s t)) ∙ List·getD-append s t 0 i l;
+    }
+
+pub holds-right : (s t : List ℕ) {text : List ℕ} {at : ℕ} → Holds text at (s ++ t) → Holds text (at + length s) t
+holds-right s t {text} {at} h =
+    record {
+      at-each =
+          λ i l. let e : at + length s + i ≡ at + (length s + i) = omega arith in
+          ap (λ k. getD text k 0) e ∙ h .at-each (length s + i) (omega (arith, length-append s t)) ∙ getD-append-add s t i 0;
+    }
+
+pub holds-itself : (before text : List ℕ) → Holds (before ++ text) (length before) text
+holds-itself before text = record { at-each = λ i l. getD-append-add before text i 0 }
+
+-- every byte passes the test
+unfoldable pub every : (ℕ → Bool) → List ℕ → Bool
+every test [] = true
+every test (b ∷ bytes) = test b and every test bytes
+
+pub every-append : (test : ℕ → Bool) (s t : List ℕ) → every test s ≡ true → every test t ≡ true → every test (s ++ t) ≡ true
+unfolding every
+every-append test [] t p q = q
+every-append test (b ∷ s) t p q =
+    and-intro (and-left (test b) (every test s) p) (every-append test s t (and-right (test b) (every test s) p) q)
+
+pub every-at : (test : ℕ → Bool) (s : List ℕ) (i : ℕ) → every test s ≡ true → i < length s → test (getD s i 0) ≡ true
+unfolding every
+every-at test [] i p l = no-way (omega arith)
+every-at test (b ∷ s) zero p l = and-left (test b) (every test s) p
+every-at test (b ∷ s) (suc i) p l = every-at test s i (and-right (test b) (every test s) p) (omega arith)
+
+-- a run goes over bytes that it goes on over
+pub run-through :
+    (run : Run) (text bytes : List ℕ) (at stop k : ℕ) → Holds text at bytes → every (λ b. goesOn run (classOf b)) bytes ≡ true →
+    at + length bytes ≤ stop → k ≤ length bytes → runEnd run text at stop ≡ runEnd run text (at + k) stop
+unfolding runsAt
+run-through run text bytes at stop zero h p r l =
+    let e : at ≡ at + 0 = omega arith in
+    ap (λ x. runEnd run text x stop) e
+run-through run text bytes at stop (suc k) h p r l =
+    let e : at + k + 1 ≡ at + suc k = omega arith in
+    run-through run text bytes at stop k h p r (omega arith)
+    ∙ run-on run text (at + k) stop (omega arith) (ap (λ b. goesOn run (classOf b)) (h .at-each k (omega arith)) ∙ every-at (λ b. goesOn run (classOf b)) bytes k p (omega arith))
+    ∙ ap (λ x. runEnd run text x stop) e
+
+pub run-whole :
+    (run : Run) (text bytes : List ℕ) (at stop : ℕ) → Holds text at bytes → every (λ b. goesOn run (classOf b)) bytes ≡ true →
+    at + length bytes ≤ stop → runEnd run text at stop ≡ runEnd run text (at + length bytes) stop
+run-whole run text bytes at stop h p r = run-through run text bytes at stop (length bytes) h p r (omega arith)
+
+-- a digit's byte
+pub digit-class : (d : ℕ) → d < 10 → classOf (48 + d) ≡ Digit
+unfolding classOf
+digit-class d l = pick-true Digit _ (between-in 48 57 (48 + d) (omega arith) (omega arith))
+
+pub digit-value : (d : ℕ) → d < 10 → digitOf (48 + d) ≡ d
+unfolding digitOf
+digit-value d l =
+    let e : 48 + d - 48 ≡ d = omega arith in
+    pick-true (48 + d - 48) 0 (between-in 48 57 (48 + d) (omega arith) (omega arith)) ∙ e
+
+-- the digits of a number are digits, and no other class
+pub decimals-every :
+    (test : ℕ → Bool) → ((d : ℕ) → d < 10 → test (48 + d) ≡ true) → (k n : ℕ) → every test (decimals k n) ≡ true
+unfolding decimals every
+decimals-every test h zero n = refl
+decimals-every test h (suc k) n =
+    every-append
+    test
+    (pick (ltb n 10) [] (decimals k (n / 10)))
+    ((48 + n % 10) ∷ [])
+    (by-test
+    (ltb n 10)
+    (λ e. ap (every test) (pick-true [] (decimals k (n / 10)) e))
+    (λ e. ap (every test) (pick-false [] (decimals k (n / 10)) e) ∙ decimals-every test h k (n / 10)))
+    (and-intro (h (n % 10) (mod-lt n (omega arith))) refl)
+
+-- the last of some bytes
+at-end : (xs : List ℕ) (x : ℕ) → getD (xs ++ (x ∷ [])) (length xs) 0 ≡ x
+at-end [] x = refl
+at-end (y ∷ xs) x = at-end xs x
+
+-- the digits before the last
+unfoldable higher : ℕ → ℕ → List ℕ
+higher k n = pick (ltb n 10) [] (decimals k (n / 10))
+
+decimals-are : (k n : ℕ) → decimals (suc k) n ≡ higher k n ++ ((48 + n % 10) ∷ [])
+unfolding decimals higher
+decimals-are k n = refl
+
+higher-none : (k n : ℕ) → ltb n 10 ≡ true → higher k n ≡ []
+unfolding higher
+higher-none k n e = pick-true [] (decimals k (n / 10)) e
+
+higher-some : (k n : ℕ) → ltb n 10 ≡ false → higher k n ≡ decimals k (n / 10)
+unfolding higher
+higher-some k n e = pick-false [] (decimals k (n / 10)) e
+
+pub holds-as : {text s t : List ℕ} {at : ℕ} → s ≡ t → Holds text at s → Holds text at t
+holds-as e h = rw e at h
+
+-- a digit more
+value-last :
+    (text digits : List ℕ) (from d : ℕ) → d < 10 → Holds text from (digits ++ ((48 + d) ∷ [])) →
+    valueOf text from (length (digits ++ ((48 + d) ∷ []))) ≡ valueOf text from (length digits) * 10 + d
+value-last text digits from d l h =
+    let size : length (digits ++ ((48 + d) ∷ [])) ≡ length digits + 1 = length-append digits ((48 + d) ∷ []) in
+    let there = h .at-each (length digits) (omega arith) ∙ at-end digits (48 + d) in
+    ap (valueOf text from) size
+    ∙ value-more text from (length digits)
+    ∙ ap (λ x. valueOf text from (length digits) * 10 + digitOf x) there
+    ∙ ap (λ x. valueOf text from (length digits) * 10 + x) (digit-value d l)
+
+value-none : (text : List ℕ) (from : ℕ) → valueOf text from 0 ≡ 0
+unfolding valueOf
+value-none text from = refl
+
+decimals-zero : (n : ℕ) → decimals 0 n ≡ []
+unfolding decimals
+decimals-zero n = refl
+
+-- the value of the digits that were written is the number
+pub value-written :
+    (text : List ℕ) (from k n : ℕ) → Holds text from (decimals k n) → n < 10 ^ k → valueOf text from (length (decimals k n)) ≡ n
+value-written text from zero n h l =
+    let z : n ≡ 0 = omega (arith, pow-zero 10) in
+    ap (λ x. valueOf text from (length x)) (decimals-zero n) ∙ value-none text from ∙ sym z
+value-written text from (suc k) n h l =
+    let small = mod-lt n {m = 10} (omega arith) in
+    let parts = decimals-are k n in
+    let held = holds-as parts h in
+    ap (λ x. valueOf text from (length x)) parts
+    ∙ value-last text (higher k n) from (n % 10) small held
+    ∙ by-test
+    (ltb n 10)
+    (λ e. let b = ltb-true n 10 e in
+    ap (λ x. valueOf text from (length x) * 10 + n % 10) (higher-none k n e)
+    ∙ ap (λ x. x * 10 + n % 10) (value-none text from)
+    ∙ omega (arith, div-add-mod' n 10))
+    (λ e. let v = value-written text from k (n / 10) (holds-as (higher-some k n e) (holds-left (higher k n) ((48 + n % 10) ∷ []) held)) (omega (arith, div-add-mod' n 10, pow-suc 10 k)) in
+    ap (λ x. valueOf text from (length x) * 10 + n % 10) (higher-some k n e)
+    ∙ ap (λ x. x * 10 + n % 10) v
+    ∙ div-add-mod' n 10)
+
+-- a number below a power of ten has no more digits, and every number has one
+higher-length : (k n : ℕ) → length (decimals (suc k) n) ≡ length (higher k n) + 1
+higher-length k n = ap length (decimals-are k n) ∙ length-append (higher k n) ((48 + n % 10) ∷ [])
+
+pub decimals-some : (k n : ℕ) → 1 ≤ length (decimals (suc k) n)
+decimals-some k n = omega (arith, higher-length k n)
+
+pub decimals-fit : (k j n : ℕ) → n < 10 ^ suc j → length (decimals k n) ≤ suc j
+decimals-fit zero j n l = omega (arith, ap length (decimals-zero n))
+decimals-fit (suc k) zero n l =
+    omega (arith, higher-length k n, pow-suc 10 0, pow-zero 10, ap length (higher-none k n (lt-ltb n 10 (omega (arith, pow-suc 10 0, pow-zero 10)))))
+decimals-fit (suc k) (suc j) n l =
+    by-test
+    (ltb n 10)
+    (λ e. omega (arith, higher-length k n, ap length (higher-none k n e)))
+    (λ e. omega (arith, higher-length k n, ap length (higher-some k n e), decimals-fit k j (n / 10) (omega (arith, div-add-mod' n 10, pow-suc 10 (suc j)))))
+
+-- what runs do at a digit
+digit-goes : (run : Run) (d : ℕ) → d < 10 → goesOn run Digit ≡ true → goesOn run (classOf (48 + d)) ≡ true
+digit-goes run d l h = ap (goesOn run) (digit-class d l) ∙ h
+
+pub run-number :
+    (run : Run) (text : List ℕ) (from stop k n : ℕ) → goesOn run Digit ≡ true → Holds text from (decimals k n) →
+    from + length (decimals k n) ≤ stop → runEnd run text from stop ≡ runEnd run text (from + length (decimals k n)) stop
+run-number run text from stop k n g h r =
+    run-whole run text (decimals k n) from stop h (decimals-every (λ b. goesOn run (classOf b)) (λ d l. digit-goes run d l g) k n) r
+
+-- a number that was written is a number, and reads as its value
+module _
+    (text : List ℕ) (at end from n : ℕ) (blanks : runEnd Blanks text at end ≡ from) (held : Holds text from (decimals 20 n))
+    (small : n < 10 ^ 9) (inside : from + length (decimals 20 n) ≤ end)
+    (ends : runEnd Nonblanks text (from + length (decimals 20 n)) end ≡ from + length (decimals 20 n)) where
+  stops : runEnd Nonblanks text from end ≡ from + length (decimals 20 n)
+  stops = run-number Nonblanks text from end 20 n refl held inside ∙ ends
+
+  is-number : isNumber text from (from + length (decimals 20 n)) ≡ true
+  unfolding isNumber
+  is-number =
+      let len = length (decimals 20 n) in
+      let one = decimals-some 19 n in
+      let nine = decimals-fit 20 8 n small in
+      let digits = run-number Digits text from (from + len) 20 n refl held (omega arith) ∙ run-over Digits text (from + len) (from + len) (omega arith) in
+      and-intro
+      (lt-ltb from (from + len) (omega arith))
+      (and-intro (le-leb (from + len - from) 9 (omega arith)) (eq-eqb (runEnd Digits text from (from + len)) (from + len) digits))
+
+  its-value : numberValue text from (from + length (decimals 20 n)) ≡ n
+  its-value =
+      let len = length (decimals 20 n) in
+      let e : from + len - from ≡ len = omega arith in
+      let big : n < 10 ^ 20 = omega arith in
+      value-some text from (from + len) is-number ∙ ap (valueOf text from) e ∙ value-written text from 20 n held big
+
+  pub number-back :
+      numberAt text at end ≡ (record { fine = true; value = n; stop = from + length (decimals 20 n) })
+  unfolding numberAt wordAt
+  number-back =
+      rw (blanks, stops, is-number, its-value)

@@ -1,0 +1,7 @@
+pub mod Puttings
+pub mod Answers
+pub mod Held
+pub mod Back
+pub mod Top
+pub mod Rows
+pub mod Head

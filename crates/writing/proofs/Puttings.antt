@@ -1,0 +1,245 @@
+-- Laws of texts put one after another.
+-- Assumes nothing.
+use mathlib.Core.Bool.{Bool, true, false}
+use mathlib.Core.List.{List, [], _∷_, _++_}
+use mathlib.Core.Path.{_≡_, refl, sym, _∙_, ap}
+use Prim.Native.Nat.{ℕ, zero, suc, _+_, _-_, _/_, _%_, _≤_, _<_}
+use native.Mathlib.Numerals.{add-one}
+use native.Mathlib.Omega.{arith}
+use lib.Dec.{eqb, ltb}
+use lib.ListN.{length, take, getD, set, length-append}
+use lib.Seq.{sets, take-suc, take-all, length-sets}
+use borrow.Author.Tests.{lt-ltb, le-ltb, eq-eqb, ne-eqb}
+use Rattle.counting.specs.Tests.{pick}
+use Rattle.counting.proofs.Joined.{by-test, pick-true, pick-false}
+use Rattle.model.specs.Pattern.{rowIn, columnIn}
+use Rattle.writing.specs.declared.Figures.{Figures}
+use Rattle.writing.specs.Written.{Puts, decimals, numberText, figureText, #volume, #cap, #tries, #floor, #stopped, #complete, #first-line, endingText, commentText, sizesText, entryText, entriesText, headText, bodyText, textOf}
+
+-- a text put after another
+pub sets-append : (vs ws l : List ℕ) (i : ℕ) → sets l i (vs ++ ws) ≡ sets (sets l i vs) (i + length vs) ws
+sets-append [] ws l i =
+    let e : i + 0 ≡ i = omega arith in
+    ap (λ k. sets l k ws) (sym e)
+sets-append (v ∷ vs) ws l i =
+    let e : suc i + length vs ≡ i + suc (length vs) = omega arith in
+    sets-append vs ws (set l i v) (suc i) ∙ ap (λ k. sets (sets (set l i v) (suc i) vs) k ws) e
+
+pub puts-none : (page : List ℕ) (at : ℕ) → Puts page at [] page at
+puts-none page at = record { after = omega arith; bytes = refl }
+
+pub puts-byte : (page new : List ℕ) (at b : ℕ) → new ≡ set page at b → Puts page at (b ∷ []) new (at + 1)
+puts-byte page new at b e = record { after = refl; bytes = e }
+
+pub puts-then :
+    {page first last s t : List ℕ} {at mid next : ℕ} → Puts page at s first mid → Puts first mid t last next →
+    Puts page at (s ++ t) last next
+puts-then {page} {first} {last} {s} {t} {at} {mid} {next} p q =
+    record {
+      after = omega (arith, p .after, q .after, length-append s t);
+      bytes =
+          q .bytes ∙ ap (λ x. sets x mid t) (p .bytes) ∙ ap (λ k. sets (sets page at s) k t) (p .after) ∙ sym (sets-append s t page at);
+    }
+
+-- another text that is equal
+pub puts-as : {page new s t : List ℕ} {at next : ℕ} → s ≡ t → Puts page at s new next → Puts page at t new next
+puts-as e p = rw e at p
+
+-- digits
+pub decimals-none : (n k : ℕ) → k ≡ 0 → [] ≡ decimals k n
+unfolding decimals
+decimals-none n k e = rw e
+
+pub decimals-last : (n k : ℕ) → (k ≡ 0 → ⊥) → n < 10 → ((48 + n % 10) ∷ []) ≡ decimals k n
+unfolding decimals
+decimals-last n zero h l = absurd (h refl)
+decimals-last n (suc k) h l =
+    sym (ap (λ x. x ++ ((48 + n % 10) ∷ [])) (pick-true [] (decimals k (n / 10)) (lt-ltb n 10 l)))
+
+pub decimals-more : (n k : ℕ) → (k ≡ 0 → ⊥) → 10 ≤ n → decimals (k - 1) (n / 10) ++ ((48 + n % 10) ∷ []) ≡ decimals k n
+unfolding decimals
+decimals-more n zero h l = absurd (h refl)
+decimals-more n (suc k) h l =
+    let e : suc k - 1 ≡ k = omega arith in
+    ap (λ x. decimals x (n / 10) ++ ((48 + n % 10) ∷ [])) e
+    ∙ sym (ap (λ x. x ++ ((48 + n % 10) ∷ [])) (pick-false [] (decimals k (n / 10)) (le-ltb n 10 l)))
+
+-- so many digits take so many bytes at most
+pub decimals-short : (k n : ℕ) → length (decimals k n) ≤ k
+unfolding decimals
+decimals-short zero n = omega arith
+decimals-short (suc k) n =
+    by-test
+    (ltb n 10)
+    (λ e. omega (arith, length-append (pick (ltb n 10) [] (decimals k (n / 10))) ((48 + n % 10) ∷ []), ap length (pick-true [] (decimals k (n / 10)) e)))
+    (λ e. omega (arith, length-append (pick (ltb n 10) [] (decimals k (n / 10))) ((48 + n % 10) ∷ []), ap length (pick-false [] (decimals k (n / 10)) e), decimals-short k (n / 10)))
+
+pub number-short : (n b : ℕ) → length (numberText n b) ≤ 21
+unfolding numberText
+number-short n b = omega (arith, length-append (decimals 20 n) (b ∷ []), decimals-short 20 n)
+
+pub sizes-short : (m n nonzeros : ℕ) → length (sizesText m n nonzeros) ≤ 63
+unfolding sizesText
+sizes-short m n nonzeros =
+    omega
+    (arith, length-append (numberText m 32) (numberText n 32 ++ numberText nonzeros 10), length-append (numberText n 32) (numberText nonzeros 10), number-short m 32, number-short n 32, number-short nonzeros 10)
+
+-- the place after so many digits, and after a number
+pub decimals-room : (k n : ℕ) {page new : List ℕ} {at next : ℕ} → Puts page at (decimals k n) new next → next ≤ at + k
+decimals-room k n {page} {new} {at} {next} p = omega (arith, p .after, decimals-short k n)
+
+pub number-room : (n b : ℕ) {page new : List ℕ} {at next : ℕ} → Puts page at (numberText n b) new next → next ≤ at + 21
+number-room n b {page} {new} {at} {next} p = omega (arith, p .after, number-short n b)
+
+pub sizes-room : (m n nonzeros : ℕ) {page new : List ℕ} {at next : ℕ} → Puts page at (sizesText m n nonzeros) new next → next ≤ at + 63
+sizes-room m n nonzeros {page} {new} {at} {next} p = omega (arith, p .after, sizes-short m n nonzeros)
+
+pub bytes-room : {page new text : List ℕ} {at next : ℕ} → Puts page at text new next → next ≡ at + length text
+bytes-room p = p .after
+
+-- bytes put one by one
+pub puts-start : (page bytes : List ℕ) (at : ℕ) → Puts page at (take 0 bytes) page (at + 0)
+puts-start page bytes at = record { after = refl; bytes = refl }
+
+pub puts-next :
+    (page now new bytes : List ℕ) (at i : ℕ) → i < length bytes → Puts page at (take i bytes) now (at + i) →
+    new ≡ set now (at + i) (getD bytes i 0) → Puts page at (take (i + 1) bytes) new (at + (i + 1))
+puts-next page now new bytes at i l p e =
+    let q = puts-then p (puts-byte now new (at + i) (getD bytes i 0) e) in
+    let s : take i bytes ++ (getD bytes i 0 ∷ []) ≡ take (i + 1) bytes = sym (take-suc bytes i 0 l) ∙ ap (λ k. take k bytes) (sym (add-one i)) in
+    record { after = omega (arith, q .after, ap length s); bytes = q .bytes ∙ ap (sets page at) s }
+
+pub puts-all :
+    (page new bytes : List ℕ) (at i : ℕ) → length bytes ≤ i → Puts page at (take i bytes) new (at + i) → Puts page at bytes new (at + i)
+puts-all page new bytes at i l p = puts-as (take-all i bytes l) p
+
+-- digits put one after another
+module _ (page : List ℕ) (at n k digit : ℕ) (d : digit ≡ 48 + n % 10) (some : k ≡ 0 → ⊥) where
+  pub puts-last : (new : List ℕ) → n < 10 → new ≡ set page at digit → Puts page at (decimals k n) new (at + 1)
+  puts-last new l e =
+      puts-as (ap (λ x. x ∷ []) d ∙ decimals-last n k some l) (puts-byte page new at digit e)
+
+  pub puts-more :
+      (now new : List ℕ) (next : ℕ) → 10 ≤ n → Puts page at (decimals (k - 1) (n / 10)) now next → new ≡ set now next digit →
+      Puts page at (decimals k n) new (next + 1)
+  puts-more now new next l p e =
+      puts-as
+      (ap (λ x. decimals (k - 1) (n / 10) ++ (x ∷ [])) d ∙ decimals-more n k some l)
+      (puts-then p (puts-byte now new next digit e))
+
+pub puts-zero : (page : List ℕ) (at n k : ℕ) → k ≡ 0 → Puts page at (decimals k n) page at
+puts-zero page at n k e = puts-as (decimals-none n k e) (puts-none page at)
+
+pub puts-number :
+    (page now new : List ℕ) (at n b next : ℕ) → Puts page at (decimals 20 n) now next → new ≡ set now next b →
+    Puts page at (numberText n b) new (next + 1)
+unfolding numberText
+puts-number page now new at n b next p e = puts-then p (puts-byte now new next b e)
+
+-- a figure, the comment, the size line, an entry
+pub puts-figure :
+    {page first last : List ℕ} {at mid next : ℕ} (label : List ℕ) (n : ℕ) → Puts page at label first mid → Puts first mid (numberText n 32) last next →
+    Puts page at (figureText label n) last next
+unfolding figureText
+puts-figure label n p q = puts-then p q
+
+pub figure-room : (label : List ℕ) (n : ℕ) {page new : List ℕ} {at next : ℕ} → Puts page at (figureText label n) new next → next ≤ at + (length label + 21)
+unfolding figureText
+figure-room label n {page} {new} {at} {next} p = omega (arith, p .after, length-append label (numberText n 32), number-short n 32)
+
+pub ending-stopped : (complete : ℕ) → complete ≡ 0 → #stopped ≡ endingText complete
+unfolding endingText
+ending-stopped complete e = sym (pick-true #stopped #complete (eq-eqb complete 0 e))
+
+pub ending-complete : (complete : ℕ) → (complete ≡ 0 → ⊥) → #complete ≡ endingText complete
+unfolding endingText
+ending-complete complete e = sym (pick-false #stopped #complete (ne-eqb complete 0 e))
+
+pub ending-short : (complete : ℕ) → length (endingText complete) ≤ 9
+unfolding endingText
+ending-short complete =
+    by-test
+    (eqb complete 0)
+    (λ e. omega (arith, ap length (pick-true #stopped #complete e)))
+    (λ e. omega (arith, ap length (pick-false #stopped #complete e)))
+
+pub puts-comment :
+    {page p1 p2 p3 p4 p5 : List ℕ} {at r1 r2 r3 r4 r5 : ℕ} (f : Figures) →
+    Puts page at (figureText #volume (f .volume)) p1 r1 → Puts p1 r1 (figureText #cap (f .cap)) p2 r2 →
+    Puts p2 r2 (figureText #tries (f .tries)) p3 r3 → Puts p3 r3 (figureText #floor (f .floor)) p4 r4 →
+    Puts p4 r4 (endingText (f .complete)) p5 r5 → Puts page at (commentText f) p5 r5
+unfolding commentText
+puts-comment f a b c d e = puts-then a (puts-then b (puts-then c (puts-then d e)))
+
+pub comment-short : (f : Figures) → length (commentText f) ≤ 118
+unfolding commentText figureText
+comment-short f =
+    let volume = figureText #volume (f .volume) in
+    let cap = figureText #cap (f .cap) in
+    let tries = figureText #tries (f .tries) in
+    let floor = figureText #floor (f .floor) in
+    omega
+    (arith, length-append volume (cap ++ (tries ++ (floor ++ endingText (f .complete)))), length-append cap (tries ++ (floor ++ endingText (f .complete))), length-append tries (floor ++ endingText (f .complete)), length-append floor (endingText (f .complete)), length-append #volume (numberText (f .volume) 32), length-append #cap (numberText (f .cap) 32), length-append #tries (numberText (f .tries) 32), length-append #floor (numberText (f .floor) 32), number-short (f .volume) 32, number-short (f .cap) 32, number-short (f .tries) 32, number-short (f .floor) 32, ending-short (f .complete))
+
+pub puts-sizes :
+    {page p1 p2 p3 : List ℕ} {at r1 r2 r3 : ℕ} (m n nonzeros : ℕ) →
+    Puts page at (numberText m 32) p1 r1 → Puts p1 r1 (numberText n 32) p2 r2 → Puts p2 r2 (numberText nonzeros 10) p3 r3 →
+    Puts page at (sizesText m n nonzeros) p3 r3
+unfolding sizesText
+puts-sizes m n nonzeros a b c = puts-then a (puts-then b c)
+
+pub puts-entry :
+    {page new : List ℕ} {at next : ℕ} (list parts : List ℕ) (t row wide-row column wide-column place part wide-part : ℕ) →
+    row ≡ rowIn list t → wide-row ≡ row → column ≡ columnIn list t → wide-column ≡ column → place ≡ t → part ≡ getD parts place 0 → wide-part ≡ part →
+    Puts page at (sizesText (wide-row + 1) (wide-column + 1) (wide-part + 1)) new next → Puts page at (entryText list parts t) new next
+unfolding entryText
+puts-entry list parts t row wide-row column wide-column place part wide-part e1 e2 e3 e4 e5 e6 e7 p =
+    puts-as (rw (e2, e4, e7, e1, e3, e6, e5)) p
+
+pub entry-room : (list parts : List ℕ) (t : ℕ) {page new : List ℕ} {at next : ℕ} → Puts page at (entryText list parts t) new next → next ≤ at + 63
+unfolding entryText
+entry-room list parts t {page} {new} {at} {next} p = sizes-room (rowIn list t + 1) (columnIn list t + 1) (getD parts t 0 + 1) p
+
+-- entries one after another
+pub entries-start : (page list parts : List ℕ) (at : ℕ) → Puts page at (entriesText list parts 0) page at
+unfolding entriesText
+entries-start page list parts at = puts-none page at
+
+pub entries-next :
+    {page now new : List ℕ} {at mid next : ℕ} (list parts : List ℕ) (t : ℕ) → Puts page at (entriesText list parts t) now mid →
+    Puts now mid (entryText list parts t) new next → Puts page at (entriesText list parts (t + 1)) new next
+unfolding entriesText
+entries-next list parts t p q = puts-as (rw add-one) (puts-then p q)
+
+pub puts-length : {page new text : List ℕ} {at next : ℕ} → Puts page at text new next → length new ≡ length page
+puts-length {page} {new} {text} {at} {next} p = ap length (p .bytes) ∙ length-sets page at text
+
+-- the two halves, and the whole
+pub puts-head :
+    {page first last : List ℕ} {mid next : ℕ} (f : Figures) → Puts page 0 #first-line first mid → Puts first mid (commentText f) last next → Puts page 0 (headText f) last next
+unfolding headText
+puts-head f p q = puts-then p q
+
+pub head-short : (f : Figures) → length (headText f) ≤ 168
+unfolding headText
+head-short f = omega (arith, length-append #first-line (commentText f), comment-short f)
+
+pub head-room : (f : Figures) {page new : List ℕ} {at next : ℕ} → Puts page at (headText f) new next → next ≤ at + 168
+head-room f {page} {new} {at} {next} p = omega (arith, p .after, head-short f)
+
+pub puts-body :
+    {page first last : List ℕ} {at mid next : ℕ} (m n nonzeros : ℕ) (list parts : List ℕ) →
+    Puts page at (sizesText m n nonzeros) first mid → Puts first mid (entriesText list parts nonzeros) last next →
+    Puts page at (bodyText m n nonzeros list parts) last next
+unfolding bodyText
+puts-body m n nonzeros list parts p q = puts-then p q
+
+pub puts-text :
+    {page first last : List ℕ} {mid next : ℕ} (m n nonzeros : ℕ) (list parts : List ℕ) (f : Figures) →
+    Puts page 0 (headText f) first mid → Puts first mid (bodyText m n nonzeros list parts) last next →
+    Puts page 0 (textOf m n nonzeros list parts f) last next
+unfolding textOf
+puts-text m n nonzeros list parts f p q = puts-then p q
+
+pub text-length-is : {page new text : List ℕ} {next : ℕ} → Puts page 0 text new next → next ≡ length text
+text-length-is {page} {new} {text} {next} p = omega (arith, p .after)

@@ -1,0 +1,137 @@
+-- The first line and the comment of a written text are read back.
+-- Assumes nothing.
+use mathlib.Core.Bool.{Bool, true, false, not}
+use mathlib.Core.List.{List, [], _∷_, _++_, append-assoc}
+use mathlib.Core.Path.{_≡_, refl, sym, _∙_, ap}
+use Prim.Native.Nat.{ℕ, zero, suc, _+_, _-_, _≤_, _<_}
+use native.Mathlib.Omega.{arith}
+use lib.Dec.{eqb, ltb}
+use lib.ListN.{length, getD, length-append}
+use borrow.Author.Tests.{lt-ltb, ne-eqb}
+use Rattle.counting.specs.Tests.{_and_, _or_, pick}
+use Rattle.counting.proofs.Joined.{by-test, and-intro, or-right, pick-true, pick-false}
+use Rattle.scanning.specs.declared.Class.the-variants.{Digit, Percent}
+use Rattle.scanning.specs.declared.Run.the-variants.{Line}
+use Rattle.scanning.specs.Classes.{between, classOf, lowered, cased, goesOn, isPercent}
+use Rattle.scanning.specs.Lines.{past, runsAt, runEnd, lineEnd, lineNext, emptyLine, isComment, skipped, sizeLineAt}
+use Rattle.scanning.specs.Words.{wordAt, spells, sameWord, endsAt}
+use Rattle.scanning.proofs.Scans.{size-on}
+use Rattle.texts.specs.declared.Banner as banner
+use Rattle.texts.specs.Header.{bannerAt}
+use Rattle.writing.specs.declared.Figures.{Figures}
+use Rattle.writing.specs.Written.{decimals, numberText, figureText, #volume, #cap, #tries, #floor, #stopped, #complete, #first-line, endingText, commentText}
+use Rattle.writing.proofs.Held.{Holds, holds-left, holds-right, holds-as, holds-itself, every, every-append, digit-class, decimals-every}
+use Rattle.writing.proofs.Back.{plain, end-back, next-back}
+
+-- the first line without its LF
+abbrev pub #first-body : List ℕ
+#first-body =
+    37 ∷ 37 ∷ 77 ∷ 97 ∷ 116 ∷ 114 ∷ 105 ∷ 120 ∷ 77 ∷ 97 ∷ 114 ∷ 107 ∷ 101 ∷ 116 ∷ 32 ∷ 109 ∷ 97 ∷ 116 ∷ 114 ∷ 105 ∷ 120 ∷ 32 ∷ 99 ∷ 111 ∷ 111 ∷ 114 ∷ 100 ∷ 105 ∷ 110 ∷ 97 ∷ 116 ∷ 101 ∷ 32 ∷ 105 ∷ 110 ∷ 116 ∷ 101 ∷ 103 ∷ 101 ∷ 114 ∷ 32 ∷ 103 ∷ 101 ∷ 110 ∷ 101 ∷ 114 ∷ 97 ∷ 108 ∷ []
+
+first-plain : every plain #first-body ≡ true
+unfolding every plain classOf between _and_ _or_ pick
+first-plain = refl
+
+module _ (rest : List ℕ) where
+  first-held : Holds (#first-line ++ rest) 0 (#first-body ++ (10 ∷ []))
+  first-held = holds-left #first-line rest (holds-itself [] (#first-line ++ rest))
+
+  -- the first line ends at 48, and the comment starts at 49
+  pub first-end : lineEnd (#first-line ++ rest) 0 ≡ 48
+  first-end = end-back (#first-line ++ rest) #first-body 0 first-held first-plain (omega (arith, length-append #first-line rest))
+
+  pub first-next : lineNext (#first-line ++ rest) 0 ≡ 49
+  first-next = next-back (#first-line ++ rest) #first-body 0 first-held first-plain (omega (arith, length-append #first-line rest))
+
+  -- it is a banner, with F = integer
+  pub banner-back : bannerAt (#first-line ++ rest) 48 ≡ (record { fine = true; integer = true })
+  unfolding bannerAt wordAt sameWord spells endsAt runEnd runsAt past cased lowered classOf between _and_ _or_ pick
+  banner-back = refl
+
+-- the bytes of the comment
+pub digit-plain : (d : ℕ) → d < 10 → plain (48 + d) ≡ true
+unfolding plain
+digit-plain d l =
+    and-intro (ap (goesOn Line) (digit-class d l)) (ap not (ne-eqb (48 + d) 13 (λ e. omega arith)))
+
+space-plain : every plain (32 ∷ []) ≡ true
+unfolding every plain classOf between _and_ _or_ pick
+space-plain = refl
+
+pub number-plain : (n : ℕ) → every plain (numberText n 32) ≡ true
+unfolding numberText
+number-plain n = every-append plain (decimals 20 n) (32 ∷ []) (decimals-every plain digit-plain 20 n) space-plain
+
+figure-plain : (label : List ℕ) (n : ℕ) → every plain label ≡ true → every plain (figureText label n) ≡ true
+unfolding figureText
+figure-plain label n h = every-append plain label (numberText n 32) h (number-plain n)
+
+-- the end of the comment without its LF
+unfoldable pub endingBody : ℕ → List ℕ
+endingBody complete =
+    pick (eqb complete 0) (115 ∷ 116 ∷ 111 ∷ 112 ∷ 112 ∷ 101 ∷ 100 ∷ []) (99 ∷ 111 ∷ 109 ∷ 112 ∷ 108 ∷ 101 ∷ 116 ∷ 101 ∷ [])
+
+ending-body : (complete : ℕ) → endingText complete ≡ endingBody complete ++ (10 ∷ [])
+unfolding endingText endingBody pick
+ending-body complete = by-case (eqb complete 0)
+  where
+    by-case : (b : Bool) → pick b #stopped #complete ≡ pick b (115 ∷ 116 ∷ 111 ∷ 112 ∷ 112 ∷ 101 ∷ 100 ∷ []) (99 ∷ 111 ∷ 109 ∷ 112 ∷ 108 ∷ 101 ∷ 116 ∷ 101 ∷ []) ++ (10 ∷ [])
+    by-case true = refl
+    by-case false = refl
+
+ending-plain : (complete : ℕ) → every plain (endingBody complete) ≡ true
+unfolding endingBody every plain classOf between _and_ _or_ pick
+ending-plain complete = by-case (eqb complete 0)
+  where
+    by-case : (b : Bool) → every plain (pick b (115 ∷ 116 ∷ 111 ∷ 112 ∷ 112 ∷ 101 ∷ 100 ∷ []) (99 ∷ 111 ∷ 109 ∷ 112 ∷ 108 ∷ 101 ∷ 116 ∷ 101 ∷ [])) ≡ true
+    by-case true = refl
+    by-case false = refl
+
+-- the comment without its LF
+unfoldable pub commentBody : Figures → List ℕ
+commentBody f =
+    figureText #volume (f .volume)
+    ++ (figureText #cap (f .cap) ++ (figureText #tries (f .tries) ++ (figureText #floor (f .floor) ++ endingBody (f .complete))))
+
+pub comment-body : (f : Figures) → commentText f ≡ commentBody f ++ (10 ∷ [])
+unfolding commentText commentBody
+comment-body f = rw (ending-body (f .complete)) (sym (simp append-assoc))
+
+labels-plain : (every plain #volume ≡ true) × (every plain #cap ≡ true) × (every plain #tries ≡ true) × (every plain #floor ≡ true)
+unfolding every plain classOf between _and_ _or_ pick
+labels-plain = (refl, refl, refl, refl)
+
+pub comment-plain : (f : Figures) → every plain (commentBody f) ≡ true
+unfolding commentBody
+comment-plain f =
+    every-append plain _ _ (figure-plain #volume (f .volume) (labels-plain .0))
+    (every-append plain _ _ (figure-plain #cap (f .cap) (labels-plain .1))
+    (every-append plain _ _ (figure-plain #tries (f .tries) (labels-plain .2))
+    (every-append plain _ _ (figure-plain #floor (f .floor) (labels-plain .3)) (ending-plain (f .complete)))))
+
+percent-first : (f : Figures) → getD (commentText f) 0 0 ≡ 37
+unfolding commentText figureText
+percent-first f = refl
+
+percent-class : isPercent (classOf 37) ≡ true
+unfolding classOf between _and_ _or_ pick
+percent-class = refl
+
+comment-some : (f : Figures) → 1 ≤ length (commentText f)
+comment-some f = omega (arith, ap length (comment-body f), length-append (commentBody f) (10 ∷ []))
+
+comment-first :
+    (text : List ℕ) (f : Figures) (at : ℕ) → Holds text at (commentText f) → at + length (commentBody f) < length text → skipped text at ≡ true
+unfolding skipped isComment
+comment-first text f at held room =
+    let e : at + 0 ≡ at = omega arith in
+    let there = ap (λ k. getD text k 0) (sym e) ∙ held .at-each 0 (comment-some f) ∙ percent-first f in
+    and-intro (lt-ltb at (length text) (omega arith)) (or-right (emptyLine text at) (ap (λ b. isPercent (classOf b)) there ∙ percent-class))
+
+-- a comment is skipped: the size line is looked for after it
+pub comment-skipped :
+    (text : List ℕ) (f : Figures) (at : ℕ) → Holds text at (commentText f) → at + length (commentBody f) < length text →
+    sizeLineAt text (length text) at ≡ sizeLineAt text (length text) (at + length (commentBody f) + 1)
+comment-skipped text f at held room =
+    size-on text at (comment-first text f at held room)
+    ∙ ap (sizeLineAt text (length text)) (next-back text (commentBody f) at (holds-as (comment-body f) held) (comment-plain f) room)
