@@ -1,0 +1,42 @@
+// Runs a search to its end, a million tries a call, and says how it ended.
+// Usage: finish PERCENT [plain | incremental], with a pattern text on
+// standard input.
+#include "baseline/text.hpp"
+
+#include <cstdio>
+#include <cstdlib>
+#include <ctime>
+#include <iostream>
+#include <iterator>
+
+using namespace baseline;
+
+int main(int count, char** words) {
+    if (count < 2) {
+        std::printf("usage: finish PERCENT [plain | incremental]\n");
+        return 2;
+    }
+    const Walk& walk = count > 2 && std::string_view(words[2]) == "plain" ? plain() : incremental();
+    std::string text{std::istreambuf_iterator<char>(std::cin), {}};
+    std::vector<uint8_t> bytes(2 * most_nonzeros), parts(most_nonzeros);
+    TextContent content;
+    Record record;
+    uint64_t cap = 0;
+    Answer answer = read_text(text, bytes.data(), bytes.size(), parts.data(), parts.size(), content);
+    List list{content.rows, content.columns, content.nonzeros, bytes.data(), bytes.size()};
+    uint64_t percent = std::strtoull(words[1], nullptr, 10);
+    if (!answer.refused()) answer = cap_from_percent(content.nonzeros, percent, cap);
+    if (!answer.refused()) answer = open(list, cap, record);
+    while (!answer.refused() && !record.complete) answer = run(walk, list, record, most_budget);
+    Shown shown;
+    if (!answer.refused()) answer = show(walk, list, record, parts.data(), parts.size(), shown);
+    if (answer.refused()) {
+        std::printf("refused %llu at %llu\n", (unsigned long long)answer.number,
+                    (unsigned long long)answer.place);
+        return 1;
+    }
+    std::printf("volume %llu cap %llu tries %llu floor %llu complete, %.2f processor seconds\n",
+                (unsigned long long)shown.volume, (unsigned long long)cap,
+                (unsigned long long)record.tries, (unsigned long long)shown.floor,
+                double(std::clock()) / CLOCKS_PER_SEC);
+}

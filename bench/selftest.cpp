@@ -1,0 +1,824 @@
+// Checks both walks and the texts against each other, against vectors from
+// another model, against the samples of document 01 and against brute force.
+// Usage: selftest DATA-DIRECTORY. The last line is "N checked, 0 differ".
+#include "baseline/text.hpp"
+#include "random.hpp"
+
+#include <fstream>
+#include <iostream>
+#include <iterator>
+#include <sstream>
+
+using namespace baseline;
+
+namespace {
+
+uint64_t checked = 0, differing = 0;
+
+void check(bool same, const std::string& what) {
+    ++checked;
+    if (same) return;
+    if (++differing <= 20) std::cout << "differs: " << what << "\n";
+}
+
+void part_done(const std::string& name) {
+    std::cout << name << ": " << checked << " checked so far, " << differing << " differ\n";
+}
+
+const Walk* const walks[] = {&plain(), &incremental()};
+const char* const walk_names[] = {"plain", "incremental"};
+
+// A pattern with its own bytes.
+struct Sample {
+    uint64_t rows = 0, columns = 0, cap = 0;
+    std::vector<uint8_t> bytes;
+    uint64_t nonzeros() const { return bytes.size() / 2; }
+    List list() const { return {rows, columns, nonzeros(), bytes.data(), bytes.size()}; }
+};
+
+struct State {
+    Record record;
+    Shown shown;
+    std::vector<uint8_t> parts;
+};
+
+void show_state(const Walk& walk, const Sample& sample, State& state) {
+    state.parts.assign(sample.nonzeros() + 3, 77);
+    Answer answer = show(walk, sample.list(), state.record, state.parts.data(),
+                         state.parts.size(), state.shown);
+    check(!answer.refused(), "a showing is accepted");
+}
+
+State opened(const Sample& sample) {
+    State state;
+    check(!open(sample.list(), sample.cap, state.record).refused(), "an opening is accepted");
+    return state;
+}
+
+State after(const Walk& walk, const Sample& sample, uint64_t budget) {
+    State state = opened(sample);
+    check(!run(walk, sample.list(), state.record, budget).refused(), "a run is accepted");
+    show_state(walk, sample, state);
+    return state;
+}
+
+bool same_state(const State& a, const State& b) {
+    return a.record == b.record && a.shown.none_yet == b.shown.none_yet &&
+           a.shown.floor == b.shown.floor && a.parts == b.parts &&
+           (a.shown.none_yet || a.shown.volume == b.shown.volume);
+}
+
+// ---- vectors of the other model
+
+bool next_filled(std::istream& file, std::string& line) {
+    while (std::getline(file, line))
+        if (!line.empty() && line[0] != '#') return true;
+    return false;
+}
+
+// The two lines of a pattern: its numbers, then its nonzeros.
+Sample read_sample(std::istream& file, const std::string& first_line) {
+    Sample sample;
+    std::string word;
+    uint64_t nonzeros;
+    std::istringstream first(first_line);
+    first >> word >> sample.rows >> sample.columns >> nonzeros >> word >> sample.cap;
+    std::string line;
+    if (nonzeros == 0) return sample;
+    std::getline(file, line);
+    std::istringstream second(line);
+    for (unsigned row, column; second >> row; ) {
+        second.ignore(1);
+        second >> column;
+        sample.bytes.push_back(uint8_t(row));
+        sample.bytes.push_back(uint8_t(column));
+    }
+    check(sample.nonzeros() == nonzeros, "vector file: number of nonzeros");
+    return sample;
+}
+
+Mark mark_of(char letter) {
+    return letter == '0' ? mark_0 : letter == '1' ? mark_1 : letter == 'c' ? mark_cut : unmarked;
+}
+
+std::string described(const Evaluation& found) {
+    std::ostringstream text;
+    text << "valid " << found.valid << " D0 " << found.taken[0] << " D1 " << found.taken[1];
+    if (found.valid)
+        text << " L1 " << found.l1 << " L2 " << found.l2 << " L3 " << found.l3 << " L4 "
+             << found.l4 << " bound " << found.bound();
+    return text.str();
+}
+
+void check_bounds_line(const Sample& sample, const std::string& line) {
+    std::istringstream words(line);
+    std::string letters, rest;
+    words >> letters >> std::ws;
+    std::getline(words, rest);
+    LineMarks marks;
+    marks.fill(unmarked);
+    for (size_t at = 0; at < letters.size(); ++at) marks[at] = mark_of(letters[at]);
+    Pattern pattern = take_apart(sample.list());
+    Evaluation found = plain().evaluate(pattern, sample.cap, marks);
+    check(described(found) == rest, "plain, bounds: " + line);
+    Evaluation again = incremental().evaluate(pattern, sample.cap, marks);
+    bool same = found.valid ? described(again) == rest : !again.valid;
+    check(same, "incremental, bounds: " + line);
+}
+
+void check_bounds(const std::string& name) {
+    std::ifstream file(name);
+    std::string line;
+    Sample sample;
+    int lines = 0;
+    for (; next_filled(file, line); ++lines)
+        if (line.rfind("pattern", 0) == 0) sample = read_sample(file, line);
+        else check_bounds_line(sample, line);
+    check(lines > 100, "bounds.txt is there");
+}
+
+std::string letters_of(const Marking& marking) {
+    std::string letters;
+    for (Mark mark : marking) letters += mark == mark_cut ? 'c' : char('0' + mark);
+    return letters.empty() ? "." : letters;
+}
+
+std::string described(const State& state) {
+    const Record& record = state.record;
+    std::ostringstream text;
+    text << "tries " << record.tries << " best " << record.best_count << " bestmarking "
+         << (record.has_best ? letters_of(record.best) : "-")
+         << (record.complete ? " complete" : " open") << " trail " << letters_of(record.trail)
+         << " floor " << state.shown.floor;
+    if (state.shown.none_yet) return text.str() + " none yet";
+    text << " volume " << state.shown.volume << " split ";
+    for (uint64_t at = 0; at < record.nonzeros; ++at) text << int(state.parts[at]);
+    return text.str() + (record.nonzeros == 0 ? "." : "");
+}
+
+void check_walks(const std::string& name) {
+    std::ifstream file(name);
+    std::string line, words;
+    Sample sample;
+    State states[2];
+    int lines = 0;
+    for (; next_filled(file, line); ++lines) {
+        if (line.rfind("pattern", 0) == 0) {
+            sample = read_sample(file, line);
+            for (State& state : states) state = opened(sample);
+            continue;
+        }
+        uint64_t tries;
+        std::istringstream(line) >> words >> tries;
+        for (int way = 0; way < 2; ++way) {
+            State& state = states[way];
+            run(*walks[way], sample.list(), state.record, tries - state.record.tries);
+            show_state(*walks[way], sample, state);
+            check("  " + described(state) == line, std::string(walk_names[way]) + ": " + line +
+                                                       "\n  found:   " + described(state));
+        }
+    }
+    check(lines > 100, "walks.txt is there");
+}
+
+// ---- samples of document 01 and of its warnings, counted from 0
+
+Sample sample_of(uint64_t rows, uint64_t columns, uint64_t cap, std::vector<uint8_t> bytes) {
+    return {rows, columns, cap, std::move(bytes)};
+}
+
+void check_end(const Sample& sample, uint64_t volume, uint64_t tries, const char* what) {
+    for (const Walk* walk : walks) {
+        State state = after(*walk, sample, most_budget);
+        check(state.record.complete && state.shown.volume == volume &&
+                  state.shown.floor == volume && state.record.tries == tries, what);
+    }
+}
+
+void check_least(const Sample& sample, uint64_t volume, const char* what) {
+    for (const Walk* walk : walks) {
+        State state = after(*walk, sample, most_budget);
+        check(state.record.complete && state.shown.volume == volume, what);
+    }
+}
+
+void check_opening(const Sample& sample, uint64_t number, uint64_t place, const char* what) {
+    Record record;
+    Answer answer = open(sample.list(), sample.cap, record);
+    check(answer.number == number && answer.place == place && record == Record(), what);
+}
+
+void check_percent(uint64_t nonzeros, uint64_t percent, uint64_t number, uint64_t cap) {
+    uint64_t found = 0;
+    Answer answer = cap_from_percent(nonzeros, percent, found);
+    check(answer.number == number && answer.place == 0 && found == cap, "cap from a percentage");
+}
+
+void check_samples() {
+    check_percent(4, 0, 0, 2);
+    check_percent(233, 3, 0, 119);
+    check_percent(1, 0, 0, 0);
+    check_percent(2000, 100, 0, 2000);
+    check_percent(2001, 101, too_big, 0);
+    check_percent(2000, 101, cap_range, 0);
+    check_percent(UINT64_MAX, UINT64_MAX, too_big, 0);
+    check_end(sample_of(1, 1, 1, {0, 0}), 0, 5, "one nonzero, cap 1");
+    check_opening(sample_of(1, 1, 0, {0, 0}), no_split, 0, "one nonzero, cap 0");
+    Sample diagonal = sample_of(2, 2, 1, {0, 0, 1, 1});
+    check_end(diagonal, 0, 11, "2 by 2 diagonal");
+    Sample full = sample_of(2, 2, 2, {0, 0, 0, 1, 1, 0, 1, 1});
+    for (const Walk* walk : walks) {
+        State state = after(*walk, diagonal, 3);
+        check(state.shown.none_yet && state.shown.floor == 0, "diagonal after 3 tries");
+        check(after(*walk, full, 0).shown.floor == 1, "full 2 by 2: fresh floor");
+    }
+    check_least(full, 2, "full 2 by 2");
+    Sample row = sample_of(1, 3, 2, {0, 0, 0, 1, 0, 2});
+    check_least(row, 1, "full 1 by 3");
+    row.cap = 1;
+    check_opening(row, no_split, 0, "full 1 by 3, cap 1");
+    check_end(sample_of(2, 3, 0, {}), 0, 0, "2 by 3 without nonzeros");
+    check_least(sample_of(3, 4, 7, {0, 2, 0, 3, 1, 1, 1, 2, 1, 3, 2, 0, 2, 2, 2, 3}), 1,
+                "counting a nonzero twice in s");
+    check_least(sample_of(4, 4, 5, {0, 2, 1, 2, 1, 3, 2, 1, 2, 2, 2, 3, 3, 0, 3, 1, 3, 3}), 2,
+                "L3 + L4");
+    check_least(sample_of(3, 3, 3, {0, 2, 1, 0, 1, 1, 2, 0, 2, 1, 2, 2}), 2,
+                "free nonzeros against part 0");
+    check_least(sample_of(1, 2, 1, {0, 0, 0, 1}), 1, "first line never cut");
+}
+
+void check_sample_bound() {
+    Sample sample = sample_of(2, 2, 2, {0, 0, 0, 1, 1, 1});
+    LineMarks marks;
+    marks.fill(unmarked);
+    marks[2] = mark_0;
+    marks[1] = mark_1;
+    for (const Walk* walk : walks) {
+        Evaluation found = walk->evaluate(take_apart(sample.list()), sample.cap, marks);
+        check(found.valid && found.l3 == 0 && found.l4 == 1, "the sample of L3 and L4");
+    }
+}
+
+// ---- openings, runs and showings that are refused
+
+void check_refused_openings() {
+    auto expect = [](uint64_t m, uint64_t n, uint64_t nonzeros, std::vector<uint8_t> bytes,
+                     uint64_t cap, uint64_t number, uint64_t place) {
+        Record record;
+        Answer answer = open({m, n, nonzeros, bytes.data(), bytes.size()}, cap, record);
+        check(answer.number == number && answer.place == place, "a refused opening");
+    };
+    expect(0, 1, 0, {}, 9999, too_big, 0);
+    expect(1, 0, 0, {}, 9999, too_big, 0);
+    expect(121, 1, 0, {}, 9999, too_big, 0);
+    expect(1, 121, 0, {}, 9999, too_big, 0);
+    expect(120, 120, 2001, {}, 9999, too_big, 0);
+    expect(2, 2, 5, {}, 9999, too_big, 0);
+    expect(uint64_t(1) << 63, 2, 1, {}, 9999, too_big, 0);
+    expect(2, 2, uint64_t(1) << 63, {}, 9999, too_big, 0);
+    expect(2, 2, 2, {9, 9, 9}, 9999, short_buffer, 0);
+    expect(2, 2, 2, {0, 0, 2, 0}, 9999, off_matrix, 1);
+    expect(2, 2, 2, {0, 2, 0, 0}, 9999, off_matrix, 0);
+    expect(2, 2, 2, {0, 1, 0, 0}, 9999, order, 1);
+    expect(2, 2, 2, {0, 1, 0, 1}, 9999, order, 1);
+    expect(2, 2, 3, {0, 1, 0, 0, 5, 5}, 9999, order, 1);
+    expect(2, 2, 2, {1, 1, 0, 2}, 9999, off_matrix, 1);
+    expect(2, 2, 2, {0, 0, 0, 1}, 2001, cap_range, 0);
+    expect(2, 2, 2, {0, 0, 0, 1}, UINT64_MAX, cap_range, 0);
+    expect(2, 2, 2, {0, 0, 0, 1}, 0, no_split, 0);
+    expect(2, 2, 2, {0, 0, 0, 1, 9, 9}, 2000, 0, 0);
+    expect(120, 120, 1, {119, 119}, 1, 0, 0);
+}
+
+// Alters an accepted record; a run and a showing must then be refused with 14.
+template <class Alter>
+void check_state(const Sample& sample, uint64_t tries, Alter alter, const char* what) {
+    for (const Walk* walk : walks) {
+        State state = after(*walk, sample, tries);
+        alter(state.record);
+        Record before = state.record;
+        std::vector<uint8_t> parts(sample.nonzeros(), 77), parts_before = parts;
+        Shown shown;
+        Answer ran = run(*walk, sample.list(), state.record, UINT64_MAX);
+        Answer showed = show(*walk, sample.list(), state.record, parts.data(), 0, shown);
+        check(ran.number == baseline::state && ran.place == 0 && state.record == before, what);
+        check(showed.number == baseline::state && parts == parts_before, what);
+    }
+}
+
+void check_states() {
+    Sample sample = sample_of(2, 2, 1, {0, 0, 1, 1});   // k = 4; 11 tries to the end
+    auto refused = [&](uint64_t tries, auto alter, const char* what) {
+        check_state(sample, tries, alter, what);
+    };
+    refused(3, [](Record& r) { r.rows = 3; }, "other rows");
+    refused(3, [](Record& r) { r.columns = 3; }, "other columns");
+    refused(3, [](Record& r) { r.nonzeros = 1; }, "other nonzeros");
+    refused(3, [](Record& r) { r.cap = 0; }, "cap too low");
+    refused(3, [](Record& r) { r.cap = 2001; }, "cap too high");
+    refused(3, [](Record& r) { r.tries = most_tries + 1; }, "too many tries");
+    refused(3, [](Record& r) { r.trail.clear(); }, "no trail, not complete");
+    refused(3, [](Record& r) { r.trail = {0, 0, 0, 0, 0}; }, "trail too long");
+    refused(3, [](Record& r) { r.trail = {0, 3}; }, "no legal mark");
+    refused(3, [](Record& r) { r.trail = {1}; }, "first mark 1");
+    refused(3, [](Record& r) { r.trail = {2, 1}; }, "first mark other than cut is 1");
+    refused(3, [](Record& r) { r.trail = {0, 0, 0}; }, "a proper beginning is not valid");
+    refused(3, [](Record& r) { r.best_count = 4; }, "no best marking, best count not k + 1");
+    refused(3, [](Record& r) { r.complete = true; }, "complete with a trail");
+    refused(3, [](Record& r) { r.complete = true; r.trail.clear(); }, "complete without a best");
+    refused(11, [](Record& r) { r.complete = false; }, "not complete, no trail");
+    refused(11, [](Record& r) { r.best.pop_back(); }, "best marking not full");
+    refused(11, [](Record& r) { r.best.push_back(2); }, "best marking too long");
+    refused(11, [](Record& r) { r.best_count = 1; }, "best count of another marking");
+    refused(11, [](Record& r) { r.best = {0, 0, 0, 0}; }, "best marking not valid");
+    refused(11, [](Record& r) { r.best = {0, 1, 0, 3}; }, "best marking with no legal mark");
+}
+
+void check_accepted_states() {
+    Sample sample = sample_of(1, 1, 1, {0, 0});
+    Sample diagonal = sample_of(2, 2, 1, {0, 0, 1, 1});
+    for (const Walk* walk : walks) {
+        State crafted = after(*walk, sample, 5);
+        crafted.record.best = {2, 2};
+        crafted.record.best_count = 2;
+        show_state(*walk, sample, crafted);
+        check(crafted.shown.volume == 0 && crafted.shown.floor == 2, "crafted: all cut");
+        State invalid = opened(diagonal);   // the trail itself may be invalid
+        invalid.record.trail = {0, 0};
+        check(!run(*walk, diagonal.list(), invalid.record, 1).refused(), "an invalid trail");
+        check(invalid.record.trail == Marking{0, 1}, "an invalid trail advances");
+    }
+}
+
+void check_budgets() {
+    Sample sample = sample_of(1, 1, 1, {0, 0});
+    for (const Walk* walk : walks) {
+        State state = opened(sample);
+        auto answer = [&](uint64_t budget) {
+            return run(*walk, sample.list(), state.record, budget).number;
+        };
+        check(answer(1000001) == budget_range && state.record == opened(sample).record, "budget");
+        check(answer(UINT64_MAX) == budget_range, "the greatest budget");
+        check(answer(1000000) == 0 && state.record.tries == 5, "budget 1,000,000");
+        check(answer(1000001) == budget_range, "budget on a complete search");
+        state.record.tries = most_tries - 3;
+        check(answer(4) == budget_range && answer(3) == 0, "tries + budget");
+        Shown shown;
+        Answer short_parts = show(*walk, sample.list(), state.record, nullptr, 0, shown);
+        check(short_parts.number == short_buffer && short_parts.place == 0, "short parts");
+    }
+}
+
+// ---- random patterns
+
+Sample random_sample(Random& random, uint64_t side, uint64_t most) {
+    Sample sample;
+    sample.rows = random.between(1, side);
+    sample.columns = random.between(1, side);
+    uint64_t nonzeros = random.below(std::min(sample.rows * sample.columns, most) + 1);
+    sample.bytes = random_list(random, sample.rows, sample.columns, nonzeros);
+    uint64_t half = (nonzeros + 1) / 2;
+    sample.cap = half + random.below(random.chance(70) ? 3 : nonzeros - half + 2);
+    return sample;
+}
+
+// Both walks, the same budgets in pieces; equal after each piece.
+void check_in_pieces(const Sample& sample, Random& random, State start, int pieces) {
+    State states[2] = {start, start};
+    uint64_t largest = uint64_t(1) << random.between(1, 9);
+    for (int piece = 0; piece < pieces; ++piece) {
+        uint64_t budget = random.below(largest);
+        for (int way = 0; way < 2; ++way) {
+            run(*walks[way], sample.list(), states[way].record, budget);
+            show_state(*walks[way], sample, states[way]);
+        }
+        check(same_state(states[0], states[1]),
+              "in pieces: " + described(states[0]) + "\n     and: " + described(states[1]));
+        if (states[0].record.complete && random.chance(80)) return;
+    }
+}
+
+void check_random_walks(int patterns) {
+    Random random(1);
+    for (int at = 0; at < patterns; ++at) {
+        uint64_t side = at % 20 == 0 ? 40 : at % 5 == 0 ? 14 : 7;
+        Sample sample = random_sample(random, side, 400);
+        check_in_pieces(sample, random, opened(sample), 6);
+    }
+}
+
+// Records that no walk need reach, but that 14 accepts.
+void check_crafted_walks(int patterns) {
+    Random random(2);
+    int accepted = 0;
+    for (int at = 0; at < patterns; ++at) {
+        Sample sample = random_sample(random, 8, 60);
+        size_t depth = take_apart(sample.list()).depth();
+        if (depth == 0) continue;
+        State state = opened(sample);
+        state.record.trail.resize(random.between(1, depth));
+        for (Mark& mark : state.record.trail) mark = Mark(random.chance(60) ? 2 : random.below(2));
+        if (random.chance(50)) {
+            state.record.has_best = true;
+            state.record.best.assign(depth, mark_cut);
+            for (size_t line = 0; line < depth; line += random.between(1, depth))
+                state.record.best[line] = Mark(random.below(3));
+            state.record.best_count = uint64_t(
+                std::count(state.record.best.begin(), state.record.best.end(), mark_cut));
+        }
+        if (run(plain(), sample.list(), state.record, 0).refused()) continue;
+        ++accepted;
+        check_in_pieces(sample, random, state, 4);
+    }
+    check(accepted > patterns / 20, "enough crafted states are accepted");
+}
+
+// Markings of any set of lines.
+void check_random_bounds(int patterns) {
+    Random random(3);
+    for (int at = 0; at < patterns; ++at) {
+        Sample sample = random_sample(random, at % 3 == 0 ? 120 : 12, 2000);
+        Pattern pattern = take_apart(sample.list());
+        uint64_t marked = random.below(60);
+        LineMarks marks;
+        marks.fill(unmarked);
+        for (int line = 0; line < pattern.lines(); ++line)
+            if (random.chance(marked)) marks[line] = Mark(random.below(3));
+        // Most markings of many lines are not valid: take marks off that clash.
+        if (random.chance(70))
+            for (int nonzero = 0; nonzero < pattern.nonzeros; ++nonzero)
+                if (marks[pattern.row[nonzero]] + marks[pattern.column[nonzero]] == 1)
+                    marks[pattern.column[nonzero]] = unmarked;
+        Evaluation a = plain().evaluate(pattern, sample.cap, marks);
+        Evaluation b = incremental().evaluate(pattern, sample.cap, marks);
+        check(a.valid == b.valid && (!a.valid || described(a) == described(b)),
+              "bounds: " + described(a) + " and " + described(b));
+    }
+}
+
+uint64_t least_volume(const Pattern& pattern, uint64_t cap) {
+    uint64_t least = UINT64_MAX;
+    std::vector<uint8_t> parts(pattern.nonzeros);
+    for (uint64_t split = 0; split < uint64_t(1) << pattern.nonzeros; ++split) {
+        for (int at = 0; at < pattern.nonzeros; ++at) parts[at] = split >> at & 1;
+        uint64_t load = std::count(parts.begin(), parts.end(), 1);
+        if (load <= cap && pattern.nonzeros - load <= cap)
+            least = std::min(least, volume(pattern, parts.data()));
+    }
+    return least;
+}
+
+void check_brute_force(int patterns) {
+    Random random(4);
+    for (int at = 0; at < patterns; ++at) {
+        Sample sample = random_sample(random, 6, 10);
+        uint64_t least = least_volume(take_apart(sample.list()), sample.cap);
+        for (const Walk* walk : walks) {
+            State state = after(*walk, sample, most_budget);
+            const uint8_t* parts = state.parts.data();
+            uint64_t load = std::count(parts, parts + sample.nonzeros(), 1);
+            check(state.record.complete && state.shown.volume == least &&
+                      state.record.best_count == least && state.shown.floor == least,
+                  "brute force");
+            check(load <= sample.cap && sample.nonzeros() - load <= sample.cap, "cap is met");
+        }
+    }
+}
+
+// ---- matrices
+
+std::string file_bytes(const std::string& name) {
+    std::ifstream file(name, std::ios::binary);
+    return {std::istreambuf_iterator<char>(file), {}};
+}
+
+Sample read_matrix(const std::string& name) {
+    Sample sample;
+    sample.bytes.resize(2 * most_nonzeros);
+    TextContent content;
+    Answer answer = read_text(file_bytes(name), sample.bytes.data(), sample.bytes.size(),
+                              nullptr, 0, content);
+    check(!answer.refused(), name + " is read");
+    sample.rows = content.rows;
+    sample.columns = content.columns;
+    sample.bytes.resize(2 * content.nonzeros);
+    cap_from_percent(content.nonzeros, 3, sample.cap);
+    return sample;
+}
+
+void check_matrix(const std::string& name, uint64_t nonzeros, uint64_t cap, uint64_t budget) {
+    Sample sample = read_matrix(name);
+    check(sample.nonzeros() == nonzeros && sample.cap == cap, name + ": nonzeros and cap");
+    State a = after(plain(), sample, budget), b = after(incremental(), sample, budget);
+    check(same_state(a, b), name + ": both walks");
+}
+
+void check_matrices(const std::string& data) {
+    Sample karate = read_matrix(data + "/karate.mtx");
+    check(karate.cap == 80, "karate: cap 80");
+    check_end(karate, 8, 24934, "karate: volume 8, complete after 24,934 tries");
+    check_matrix(data + "/karate.mtx", 156, 80, 10000);
+    check_matrix(data + "/chesapeake.mtx", 340, 175, 100000);
+    check_matrix(data + "/steam3.mtx", 928, 477, 50000);
+}
+
+// ---- texts
+
+const std::string pattern_banner = "%%MatrixMarket matrix coordinate pattern general\n";
+const std::string integer_banner = "%%MatrixMarket matrix coordinate integer general\n";
+
+std::string split_with_both(const std::string& input) {
+    std::string a = split(plain(), input), b = split(incremental(), input);
+    check(a == b, "split with both walks");
+    return a;
+}
+
+void check_split(const std::string& input, const std::string& output) {
+    std::string found = split_with_both(input);
+    check(found == output, "split of:\n" + input.substr(0, 200) + "\ngives: " + found);
+}
+
+void check_text(const std::string& text, uint64_t number, uint64_t place) {
+    std::vector<uint8_t> list(4000, 77), parts(2000, 77), list_before = list, parts_before = parts;
+    TextContent content;
+    Answer answer = read_text(text, list.data(), list.size(), parts.data(), parts.size(), content);
+    check(answer.number == number && answer.place == place,
+          "text refused " + std::to_string(answer.number) + " at " +
+              std::to_string(answer.place) + ":\n" + text.substr(0, 200));
+    if (number != 0) check(list == list_before && parts == parts_before, "buffers stay");
+}
+
+void check_banners() {
+    const std::string rest = "1 1 1\n1 1\n";
+    check_text("", banner, 0);
+    check_text("\n" + pattern_banner + rest, banner, 0);
+    check_text(" " + pattern_banner + rest, banner, 0);
+    check_text("%%matrixmarket matrix coordinate pattern general\n" + rest, banner, 0);
+    check_text("%%MatrixMarket MATRIX\tCoordinate  PaTTern GENERAL \t\n" + rest, 0, 0);
+    check_text("%%MatrixMarket matrix coordinate pattern general\r\n" + rest, 0, 0);
+    check_text("%%MatrixMarket matrix coordinate pattern general\r\r\n" + rest, banner, 0);
+    check_text("%%MatrixMarket matrix coordinate pattern general\r", banner, 0);
+    check_text("%%MatrixMarket matrix coordinate pattern symmetric\n" + rest, banner, 0);
+    check_text("%%MatrixMarket matrix coordinate real general\n" + rest, banner, 0);
+    check_text("%%MatrixMarket matrix array pattern general\n" + rest, banner, 0);
+    check_text("%%MatrixMarket matrix coordinate pattern general more\n" + rest, banner, 0);
+    check_text("%%MatrixMarket matrix coordinate pattern generals\n" + rest, banner, 0);
+    check_text("%%MatrixMarketmatrix coordinate pattern general\n" + rest, banner, 0);
+    check_text("%%MatrixMarket matrix coordinatepattern general\n" + rest, banner, 0);
+    check_text("%%MatrixMarket matrix coordinate pattern\n" + rest, banner, 0);
+    check_text("%%MatrixMarket\nmatrix coordinate pattern general\n" + rest, banner, 0);
+}
+
+// `after_banner` follows the pattern banner; a place counts from behind it,
+// except that `at_end` stands for the text's length.
+constexpr uint64_t at_end = UINT64_MAX;
+
+void check_body(const std::string& after_banner, uint64_t number, uint64_t place) {
+    std::string text = pattern_banner + after_banner;
+    bool elsewhere = number == 0 || number == short_buffer;
+    check_text(text, number, elsewhere ? 0 : place == at_end ? text.size()
+                                                             : pattern_banner.size() + place);
+}
+
+void check_size_lines() {
+    check_text(pattern_banner.substr(0, pattern_banner.size() - 1), size_line,
+               pattern_banner.size() - 1);
+    check_body("", size_line, at_end);
+    check_body("\n  \n\t\r\n", size_line, at_end);
+    check_body("% only a comment", size_line, at_end);
+    check_body("1 1\n", size_line, 0);
+    check_body("1 1 1 1\n", size_line, 0);
+    check_body("1 1 x\n", size_line, 0);
+    check_body("1 1 -1\n", size_line, 0);
+    check_body("1 1 1x\n", size_line, 0);
+    check_body("1 1 1\r", size_line, 0);
+    check_body("\n % no comment\n1 1 0\n", size_line, 1);
+    check_body("1 1 0000000001\n1 1\n", size_line, 0);
+    check_body("1 1 000000001\n1 1\n", 0, 0);
+    check_body("%\xff\x01 any \r bytes\n%\n\n \t1\t 1 1 \n1 1", 0, 0);
+    check_body("0 1 0\n", too_big, 0);
+    check_body("1 0 0\n", too_big, 0);
+    check_body("121 1 0\n", too_big, 0);
+    check_body("1 121 0\n", too_big, 0);
+    check_body("120 120 2001\n", too_big, 0);
+    check_body("2 3 7\n", too_big, 0);
+    check_body("999999999 999999999 999999999\n", too_big, 0);
+    check_body("120 120 0\n", 0, 0);
+    check_body("120 120 0", 0, 0);
+    check_body("%c\n% d\n\n 2 2 5\n", too_big, 8);
+}
+
+void check_entries() {
+    check_body("2 2 1\n", count, at_end);
+    check_body("2 2 2\n1 1\n", count, at_end);
+    check_body("2 2 2\n1 1\n\n \n", count, at_end);
+    check_body("2 2 1\n1\n", entry_form, 6);
+    check_body("2 2 1\n1 1 1\n", entry_form, 6);
+    check_body("2 2 1\n1 1x\n", entry_form, 6);
+    check_body("2 2 1\n1 +1\n", entry_form, 6);
+    check_body("2 2 1\n%c\n1 1\n", entry_form, 6);
+    check_body("2 2 1\n\n  x\n", entry_form, 7);
+    check_body("2 2 1\n1 1\r", entry_form, 6);
+    check_body("2 2 1\n1 0000000001\n", entry_form, 6);
+    check_body("2 2 1\n  1 \t 1  \r\n", 0, 0);
+    check_body("2 2 1\n3 1\n", off_matrix, 6);
+    check_body("2 2 1\n1 3\n", off_matrix, 6);
+    check_body("2 2 1\n0 1\n", off_matrix, 6);
+    check_body("2 2 1\n1 0\n", off_matrix, 6);
+    check_body("2 2 2\n1 1\n1 1\n", repeated, 10);
+    check_body("2 2 2\n1 1\n01 001\n", repeated, 10);
+    check_body("2 2 2\n2 2\n1 1\n", 0, 0);
+    check_body("2 2 1\n1 1\nx\n", count, 10);
+    check_body("2 2 1\n1 1\n%\n", count, 10);
+    check_body("2 2 1\n1 1\n\n2 2\n", count, 11);
+    check_body("2 2 1\n1 1\n\r", count, 10);
+    check_body("2 2 1\n1 1\n\r\n", 0, 0);
+    check_body("2 2 0\n1 1\n", count, 6);
+    check_text(integer_banner + "2 2 1\n1 1\n", entry_form, 55);
+    check_text(integer_banner + "2 2 1\n1 1 0\n", part, 55);
+    check_text(integer_banner + "2 2 1\n1 1 3\n", part, 55);
+    check_text(integer_banner + "2 2 1\n3 1 3\n", off_matrix, 55);
+    check_text(integer_banner + "2 2 2\n1 1 1\n1 1 3\n", part, 61);
+    check_text(integer_banner + "2 2 2\n1 1 1\n1 1 2\n", repeated, 61);
+    check_text(integer_banner + "2 2 2\n2 1 2\n1 1 1\n", 0, 0);
+}
+
+void check_text_lengths() {
+    std::string text = pattern_banner + "1 1 1\n1 1\n";
+    check_text(text + std::string(longest_text - text.size(), '\n'), 0, 0);
+    check_text(text + std::string(longest_text - text.size() + 1, '\n'), too_big, 0);
+    check_text(std::string(longest_text + 1, 'x'), too_big, 0);
+    std::vector<uint8_t> list(4, 77), parts(2, 77);
+    TextContent content;
+    std::string two = "2 2 2\n2 2 1\n1 1 2\n";
+    auto read = [&](const std::string& given, size_t list_length, size_t parts_length) {
+        return read_text(given, list.data(), list_length, parts.data(), parts_length, content)
+            .number;
+    };
+    check(read(integer_banner + two, 3, 2) == short_buffer, "list too short");
+    check(read(integer_banner + two, 4, 1) == short_buffer, "parts too short");
+    check(read(integer_banner + "2 2 5\n", 0, 0) == too_big, "4 before 9");
+    check(read(integer_banner + "2 2 2\nx", 0, 0) == short_buffer, "9 before 3");
+    check(list == std::vector<uint8_t>(4, 77), "the list stays");
+    check(read(integer_banner + two, 4, 2) == 0, "long enough");
+    using Bytes = std::vector<uint8_t>;
+    check(list == Bytes{0, 0, 1, 1} && parts == Bytes{1, 0}, "sorted");
+    parts.assign(2, 77);
+    check(read(pattern_banner + "2 2 2\n2 2\n1 2\n", 4, 0) == 0, "pattern without parts");
+    check(list == Bytes{0, 1, 1, 1} && parts == Bytes{77, 77}, "stay");
+}
+
+void check_writer() {
+    std::vector<uint8_t> parts = {0, 1}, out(200, 77);
+    CommentFigures figures{0, 1, 11, 0, 1};
+    auto write = [&](List list, size_t parts_length, size_t out_length) {
+        size_t length = 0;
+        Answer answer = write_text(list, parts.data(), parts_length, figures, out.data(),
+                                   out_length, length);
+        return answer.refused() ? answer.number + 256 * answer.place : 1000 + length;
+    };
+    std::vector<uint8_t> bytes = {0, 0, 1, 1};
+    const std::string wanted = integer_banner + "% volume 0 cap 1 tries 11 floor 0 complete\n"
+                                                "2 2 2\n1 1 1\n2 2 2\n";
+    check(write({3, 2, 7, bytes.data(), 4}, 0, 0) == too_big, "writer: 4");
+    check(write({2, 2, 2, bytes.data(), 3}, 2, 200) == short_buffer, "writer: 9 for the list");
+    check(write({2, 1, 2, bytes.data(), 4}, 1, 200) == short_buffer, "writer: 9 for parts");
+    check(write({2, 1, 2, bytes.data(), 4}, 2, 0) == off_matrix + 256, "writer: 5");
+    check(write({2, 2, 2, bytes.data(), 4}, 2, wanted.size() - 1) == short_buffer, "writer: 9");
+    check(out == std::vector<uint8_t>(200, 77), "writer: output stays");
+    check(write({2, 2, 2, bytes.data(), 4}, 2, 200) == 1000 + wanted.size(), "writer: length");
+    check(std::string(out.begin(), out.begin() + long(wanted.size())) == wanted, "writer: text");
+    check(out[wanted.size()] == 77, "writer: bytes past the text stay");
+    bytes = {0, 0, 0, 0};
+    check(write({2, 2, 2, bytes.data(), 4}, 2, 0) == order + 256, "writer: 10");
+    parts = {0, 2};
+    check(write({2, 2, 2, bytes.data(), 4}, 2, 0) == order + 256, "writer: 10 before 8");
+    parts = {2, 2};
+    check(write({2, 2, 2, bytes.data(), 4}, 2, 0) == part, "writer: 8 of an earlier nonzero");
+    figures = {UINT64_MAX, UINT64_MAX, UINT64_MAX, UINT64_MAX, 0};
+    parts = {0, 0};
+    const std::string bare = integer_banner + "% volume  cap  tries  floor  stopped\n1 1 0\n";
+    check(write({1, 1, 0, nullptr, 0}, 0, 200) == 1000 + bare.size() + 4 * 20, "writer: widest");
+}
+
+void check_round_trips(int patterns) {
+    Random random(5);
+    for (int at = 0; at < patterns; ++at) {
+        Sample sample = random_sample(random, at % 4 == 0 ? 120 : 6, 2000);
+        std::vector<uint8_t> parts(sample.nonzeros()), list_back(4000), parts_back(2000);
+        for (uint8_t& byte : parts) byte = uint8_t(random.below(2));
+        std::vector<uint8_t> out(longest_text);
+        size_t length = 0;
+        Answer answer = write_text(sample.list(), parts.data(), parts.size(), {1, 2, 3, 4, 5},
+                                   out.data(), out.size(), length);
+        TextContent content;
+        Answer back = read_text({reinterpret_cast<char*>(out.data()), length}, list_back.data(),
+                                list_back.size(), parts_back.data(), parts_back.size(), content);
+        list_back.resize(sample.bytes.size());
+        parts_back.resize(parts.size());
+        check(!answer.refused() && !back.refused() && list_back == sample.bytes &&
+                  parts_back == parts && content.rows == sample.rows &&
+                  content.columns == sample.columns, "a text read back");
+    }
+}
+
+void check_splits(const std::string& data) {
+    const std::string two = pattern_banner + "2 2 2\n2 2\n1 1\n";
+    const std::string solved = integer_banner + "% volume 0 cap 1 tries 11 floor 0 complete\n"
+                                                "2 2 2\n1 1 1\n2 2 2\n";
+    check_split("percent 0 budget 100\n" + two, solved);
+    check_split("percent 000 budget 000000100\n" + two, solved);
+    check_split("percent 0 budget 3\n" + two, "none yet cap 1 tries 3 floor 0\n");
+    check_split("percent 0 budget 0\n" + two, "none yet cap 1 tries 0 floor 0\n");
+    for (const char* line : {"", "percent 0 budget 100", "percent 0 budget 100\r\n",
+                             "percent  0 budget 100\n", "percent 0 budget 100 \n",
+                             " percent 0 budget 100\n", "Percent 0 budget 100\n",
+                             "percent 0000000000 budget 1\n", "percent 0 budget 1000000000\n",
+                             "percent -1 budget 1\n", "percent  budget 1\n", "percent 0\n",
+                             "percent 0 budget \n", "\n"})
+        check_split(line + two, "refused 3 at 0\n");
+    check_split("percent 101 budget 1000001\n" + two, "refused 11 at 0\n");
+    check_split("percent 0 budget 1000001\n" + two, "refused 13 at 0\n");
+    check_split("percent 999999999 budget 999999999\n" + two + "1", "refused 7 at 63\n");
+    check_split("percent 0 budget 1000001\n" + pattern_banner + "1 1 1\n1 1\n",
+                "refused 12 at 0\n");
+    check_split("percent 0 budget 1\n", "refused 1 at 0\n");
+    check_split("percent 0 budget 1\n" + std::string(longest_text + 1, ' '), "refused 4 at 0\n");
+    check_split("percent 0 budget 5\n" + pattern_banner + "2 3 0\n",
+                integer_banner + "% volume 0 cap 0 tries 0 floor 0 complete\n2 3 0\n");
+    const std::string all = "percent 3 budget 1000000\n";
+    std::string karate = split_with_both(all + file_bytes(data + "/karate.mtx"));
+    check(karate.find("% volume 8 cap 80 tries 24934 floor 8 complete\n34 34 156\n") ==
+              integer_banner.size(), "split of karate");
+    check(split_with_both(all + karate) == karate, "parts are unused");
+}
+
+// ---- the function for C
+
+void check_c_function(bipartition_function* function) {
+    std::vector<uint8_t> list = {0, 0, 1, 1}, parts(4, 77), figures(40, 77);
+    auto call = [&](uint64_t m, uint64_t cap, uint64_t budget, size_t list_length,
+                    size_t parts_length, size_t figures_length) {
+        return function(m, 2, 2, list.data(), list_length, cap, budget, parts.data(),
+                        parts_length, figures.data(), figures_length);
+    };
+    const uint64_t over = 1000001;
+    check(call(0, 0, over, 0, 0, 0) == too_big, "C: 4");
+    check(call(2, 0, over, 3, 0, 0) == short_buffer, "C: 9 for the list");
+    check(call(1, 0, over, 4, 0, 0) == off_matrix + 256, "C: 5 at 1");
+    check(call(2, 2001, over, 4, 0, 0) == cap_range, "C: 11");
+    check(call(2, 0, over, 4, 0, 0) == no_split, "C: 12");
+    check(call(2, 1, over, 4, 0, 0) == budget_range, "C: 13");
+    check(call(2, 1, 3, 4, 1, 40) == short_buffer, "C: 9 for parts");
+    check(call(2, 1, 3, 4, 4, 31) == short_buffer, "C: 9 for figures");
+    check(call(2, 1, 3, 4, 4, 40) == 255, "C: none yet");
+    check(parts == std::vector<uint8_t>(4, 77), "C: parts stay");
+    check(figures == std::vector<uint8_t>(40, 77), "C: figures stay");
+    check(call(2, 1, 1000000, 4, 4, 40) == 0, "C: found");
+    std::vector<uint8_t> wanted(40, 77);
+    std::fill(wanted.begin(), wanted.begin() + 32, uint8_t(0));
+    wanted[8] = 11;
+    wanted[24] = 1;
+    check(parts == std::vector<uint8_t>{0, 1, 77, 77} && figures == wanted, "C: output");
+}
+
+}  // namespace
+
+int main(int arguments, char** words) {
+    if (arguments != 2) {
+        std::cout << "usage: selftest DATA-DIRECTORY\n";
+        return 2;
+    }
+    const std::string data = words[1];
+    check_bounds(data + "/bounds.txt");
+    check_walks(data + "/walks.txt");
+    part_done("vectors");
+    check_samples();
+    check_sample_bound();
+    check_refused_openings();
+    check_states();
+    check_accepted_states();
+    check_budgets();
+    check_c_function(plain_bipartition);
+    check_c_function(incremental_bipartition);
+    part_done("samples and refusals");
+    check_banners();
+    check_size_lines();
+    check_entries();
+    check_text_lengths();
+    check_writer();
+    check_round_trips(500);
+    check_splits(data);
+    part_done("texts");
+    check_random_walks(30000);
+    check_crafted_walks(10000);
+    part_done("random walks in pieces");
+    check_random_bounds(20000);
+    part_done("random markings");
+    check_brute_force(4000);
+    part_done("brute force");
+    check_matrices(data);
+    part_done("matrices");
+    std::cout << checked << " checked, " << differing << " differ\n";
+    return differing == 0 ? 0 : 1;
+}

@@ -1,0 +1,205 @@
+// Measures tries per second of each implementation of the C function, how the
+// cost of a try grows with the number of nonzeros, and peak memory.
+//
+// Usage: speed DATA-DIRECTORY [BUDGET], with a budget of at most 1,000,000
+// tries a call; 1,000,000 if left out. Times are processor time, so that other
+// work on the machine counts little. Each measurement runs in a process of its
+// own, so that its peak memory is its own; the quickest of three counts, and
+// the table gives the slowest as well. A call is repeated until it has taken a
+// fifth of a second; opening and showing are part of its time.
+#include "baseline/text.hpp"
+#include "implementations.hpp"
+#include "random.hpp"
+
+#include <sys/resource.h>
+#include <sys/wait.h>
+#include <unistd.h>
+
+#include <cstdio>
+#include <cstdlib>
+#include <ctime>
+#include <fstream>
+#include <iterator>
+
+namespace {
+
+struct Subject {
+    std::string name;
+    uint64_t rows = 0, columns = 0, cap = 0;
+    std::vector<uint8_t> list;
+    uint64_t nonzeros() const { return list.size() / 2; }
+};
+
+struct Measure {
+    uint64_t tries = 0;          // of one call
+    uint64_t volume = 0;
+    bool none_yet = false, complete = false;
+    double seconds = 0;          // of one call
+    double slowest = 0;          // the same, in the slowest process
+    long kilobytes = 0;          // peak memory of the process
+    double rate() const { return double(tries) / seconds; }
+    double nanoseconds() const { return 1e9 * seconds / double(tries); }
+    double slowest_nanoseconds() const { return 1e9 * slowest / double(tries); }
+};
+
+uint64_t figure(const std::vector<uint8_t>& figures, size_t at) {
+    uint64_t value = 0;
+    for (size_t byte = 8; byte > 0; --byte) value = 256 * value + figures[8 * at + byte - 1];
+    return value;
+}
+
+// One call; without a split the whole budget was spent.
+Measure call(bipartition_function* function, const Subject& subject, uint64_t budget) {
+    std::vector<uint8_t> parts(subject.nonzeros()), figures(32);
+    uint64_t answer = function(subject.rows, subject.columns, subject.nonzeros(),
+                               subject.list.data(), subject.list.size(), subject.cap, budget,
+                               parts.data(), parts.size(), figures.data(), figures.size());
+    Measure measure;
+    measure.none_yet = answer == 255;
+    measure.tries = measure.none_yet ? budget : figure(figures, 1);
+    measure.volume = figure(figures, 0);
+    measure.complete = figure(figures, 3) == 1;
+    if (answer != 0 && answer != 255) std::printf("refused %llu\n", (unsigned long long)answer);
+    return measure;
+}
+
+Measure repeated_call(bipartition_function* function, const Subject& subject, uint64_t budget) {
+    Measure measure;
+    std::clock_t start = std::clock();
+    double passed = 0;
+    for (int calls = 1; passed < 0.2; ++calls) {
+        measure = call(function, subject, budget);
+        passed = double(std::clock() - start) / CLOCKS_PER_SEC;
+        measure.seconds = passed / calls;
+    }
+    return measure;
+}
+
+// The same in a process of its own.
+Measure measured_apart(bipartition_function* function, const Subject& subject, uint64_t budget) {
+    int ends[2];
+    Measure measure;
+    if (pipe(ends) != 0) return measure;
+    std::fflush(stdout);
+    pid_t child = fork();
+    if (child == 0) {
+        measure = repeated_call(function, subject, budget);
+        bool sent = write(ends[1], &measure, sizeof measure) == long(sizeof measure);
+        std::fflush(stdout);
+        _exit(sent ? 0 : 1);
+    }
+    rusage usage{};
+    if (read(ends[0], &measure, sizeof measure) != long(sizeof measure)) measure = Measure();
+    wait4(child, nullptr, 0, &usage);
+    close(ends[0]);
+    close(ends[1]);
+    measure.kilobytes = usage.ru_maxrss;
+    return measure;
+}
+
+Measure measured(bipartition_function* function, const Subject& subject, uint64_t budget) {
+    Measure best = measured_apart(function, subject, budget);
+    double slowest = best.seconds;
+    for (int again = 0; again < 2; ++again) {
+        Measure next = measured_apart(function, subject, budget);
+        slowest = std::max(slowest, next.seconds);
+        if (next.seconds < best.seconds) best = next;
+    }
+    best.slowest = slowest;
+    return best;
+}
+
+// ---- patterns
+
+void set_cap(Subject& subject) {
+    baseline::cap_from_percent(subject.nonzeros(), 3, subject.cap);
+    if (subject.nonzeros() > 2 * subject.cap) ++subject.cap;
+}
+
+Subject matrix(const std::string& data, const std::string& name) {
+    std::ifstream file(data + "/" + name + ".mtx", std::ios::binary);
+    std::string text{std::istreambuf_iterator<char>(file), {}};
+    Subject subject;
+    subject.list.resize(2 * baseline::most_nonzeros);
+    baseline::TextContent content;
+    baseline::read_text(text, subject.list.data(), subject.list.size(), nullptr, 0, content);
+    subject.name = name;
+    subject.rows = content.rows;
+    subject.columns = content.columns;
+    subject.list.resize(2 * content.nonzeros);
+    set_cap(subject);
+    return subject;
+}
+
+Subject random_subject(uint64_t rows, uint64_t columns, uint64_t nonzeros, uint64_t seed) {
+    Random random(seed);
+    Subject subject;
+    subject.name = std::to_string(rows) + " by " + std::to_string(columns) + " random";
+    subject.rows = rows;
+    subject.columns = columns;
+    subject.list = random_list(random, rows, columns, nonzeros);
+    set_cap(subject);
+    return subject;
+}
+
+std::string outcome(const Measure& measure) {
+    if (measure.none_yet) return "none yet";
+    return "volume " + std::to_string(measure.volume) + (measure.complete ? "" : ", stopped");
+}
+
+// ---- tables
+
+// One row for each implementation; ratios to the first, plain.
+void print_subject(const Subject& subject, uint64_t budget) {
+    double plain_rate = 0;
+    for (const Implementation& one : implementations()) {
+        Measure found = measured(one.function, subject, budget);
+        if (plain_rate == 0) plain_rate = found.rate();
+        std::printf("| %s | %llu | %llu | %s | %s | %llu | %.0f | %.0f (%.0f) | %.1f | %ld |\n",
+                    subject.name.c_str(), (unsigned long long)subject.nonzeros(),
+                    (unsigned long long)subject.cap, one.name.c_str(), outcome(found).c_str(),
+                    (unsigned long long)found.tries, found.rate(), found.nanoseconds(),
+                    found.slowest_nanoseconds(), found.rate() / plain_rate, found.kilobytes);
+    }
+}
+
+void print_speed(const std::string& data, uint64_t budget) {
+    std::printf("Speed, at 3 percent, one call with a budget of %llu\n\n",
+                (unsigned long long)budget);
+    std::printf("| pattern | N | cap | implementation | result | tries | tries a second "
+                "| ns a try (slowest) | times plain | peak kB |\n"
+                "|---|---|---|---|---|---|---|---|---|---|\n");
+    for (const char* name : {"karate", "chesapeake", "steam3"})
+        print_subject(matrix(data, name), budget);
+    print_subject(random_subject(30, 30, 200, 1), budget);
+    print_subject(random_subject(100, 100, 1500, 1), budget);
+}
+
+// How the cost of a try grows: one shape, more and more nonzeros.
+void print_growth(uint64_t budget) {
+    std::printf("\nNanoseconds a try by N, random patterns of 120 by 120, budget %llu\n\n| N |",
+                (unsigned long long)budget);
+    for (const Implementation& one : implementations()) std::printf(" %s |", one.name.c_str());
+    std::printf("\n|---|");
+    for (size_t at = 0; at < implementations().size(); ++at) std::printf("---|");
+    std::printf("\n");
+    for (uint64_t nonzeros : {125, 250, 500, 1000, 1500, 2000}) {
+        std::printf("| %llu |", (unsigned long long)nonzeros);
+        for (const Implementation& one : implementations())
+            std::printf(" %.0f |", measured(one.function, random_subject(120, 120, nonzeros, 2),
+                                            budget).nanoseconds());
+        std::printf("\n");
+    }
+}
+
+}  // namespace
+
+int main(int count, char** words) {
+    if (count < 2) {
+        std::printf("usage: speed DATA-DIRECTORY [BUDGET]\n");
+        return 2;
+    }
+    uint64_t budget = count > 2 ? std::strtoull(words[2], nullptr, 10) : baseline::most_budget;
+    print_speed(words[1], budget);
+    print_growth(std::min<uint64_t>(budget, 100000));
+}
