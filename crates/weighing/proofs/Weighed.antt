@@ -36,13 +36,6 @@ module _ (m n nonzeros : ℕ) (list marks lean : List ℕ) (t row column : ℕ) 
   unfolding untaken takes patternOf rowLine columnLine
   untaken-code e = e ∙ rw (a, b)
 
-  -- a line of it leans to a part
-  pub leans-code :
-      (part : ℕ) → r ≡ eqb (getD lean row 0) part or eqb (getD lean (m + column) 0) part →
-      r ≡ leansIn (patternOf m n nonzeros list) lean part t
-  unfolding leansIn patternOf rowLine columnLine
-  leans-code part e = e ∙ rw (a, b)
-
   -- it is a conflict
   pub conflict-code :
       r
@@ -51,6 +44,37 @@ module _ (m n nonzeros : ℕ) (list marks lean : List ℕ) (t row column : ℕ) 
       r ≡ conflictIn (patternOf m n nonzeros list) lean t
   unfolding conflictIn patternOf rowLine columnLine
   conflict-code e = e ∙ rw (a, b)
+
+-- what it adds to s of a part
+pub stake-code :
+    (m n nonzeros : ℕ) (list marks lean : List ℕ) (t row column part r : ℕ) (free : Bool) → row ≡ rowIn list t → column ≡ columnIn list t →
+    free ≡ untaken (patternOf m n nonzeros list) (markingIn marks) t →
+    r ≡ bit (free and (eqb (getD lean row 0) part or eqb (getD lean (m + column) 0) part)) →
+    r ≡ bit (untaken (patternOf m n nonzeros list) (markingIn marks) t and leansIn (patternOf m n nonzeros list) lean part t)
+unfolding leansIn patternOf rowLine columnLine
+stake-code m n nonzeros list marks lean t row column part r free a b f e = e ∙ rw (a, b, f)
+
+-- a nonzero is counted once even if both its lines lean
+pub counted-once :
+    (row column further : Bool) (first second : ℕ) → first ≡ bit row → further ≡ column and not row → second ≡ bit further →
+    first + second ≡ bit (row or column)
+unfolding _and_ _or_ bit
+counted-once true true further first second a b c = rw (a, c, b)
+counted-once true false further first second a b c = rw (a, c, b)
+counted-once false true further first second a b c = rw (a, c, b)
+counted-once false false further first second a b c = rw (a, c, b)
+
+-- a nonzero that is untaken, and one that is taken
+module _ (free : Bool) (part : ℕ) where
+  pub stake-free :
+      (r x x′ y y′ : ℕ) → r ≡ bit (eqb x part or eqb y part) → x ≡ x′ → y ≡ y′ → free ≡ true →
+      r ≡ bit (free and (eqb x′ part or eqb y′ part))
+  unfolding _and_
+  stake-free r x x′ y y′ e a b f = e ∙ rw (a, b, f)
+
+  pub stake-none : (x y : ℕ) → free ≡ false → 0 ≡ bit (free and (eqb x part or eqb y part))
+  unfolding _and_ bit
+  stake-none x y f = rw f
 
 -- what a pass over the first t nonzeros has found, and the weights that it left
 pub record WeighsTo (P : Pattern) (μ : Marking) (lean : List ℕ) (t zero one conflicts : ℕ) (weights : List ℕ) : Type 0 where

@@ -13,7 +13,7 @@ ghost use mathlib.Core.Path.{_≡_};
 ghost use Prim.Native.Nat.{ℕ, _+_, _<_};
 ghost use lib.Dec.{eqb};
 ghost use lib.ListN.{getD};
-ghost use Rattle.counting.specs.Tests.{_and_, _or_, pick};
+ghost use Rattle.counting.specs.Tests.{_and_, _or_, pick, bit};
 ghost use Rattle.model.specs.Pattern.{patternOf};
 ghost use Rattle.weighing.specs.Cells.{markingIn, raised, Cleared};
 ghost use Rattle.weighing.specs.Weights.{WeighsAll};
@@ -43,13 +43,23 @@ pub fn untaken_by(marks: &[u8; 512], m: u8, row: u8, column: u8) -> bool
     !either_of(first, second)
 }
 
-// The row or the column of a nonzero leans to a part.
-pub fn leans_by(lean: &[u8; 512], m: u8, row: u8, column: u8, part: u8) -> bool
-    ensures { λ r. ⌜ r ≡ eqb (getD (now (lean .entry)) row 0) part or eqb (getD (now (lean .entry)) (m + column) 0) part ⌝ }
+// What a nonzero adds to s: 1 if its row or its column leans, and no more if both do.
+pub fn once(row: bool, column: bool) -> u16
+    ensures { λ r. ⌜ r ≡ bit (row or column) ⌝ }
+{
+    bit_of(row) + bit_of(both_of(column, !row))
+}
+
+// What a nonzero adds to s of a part: 1 if it is untaken and one of its lines leans to the part.
+pub fn stake_by(lean: &[u8; 512], m: u8, row: u8, column: u8, part: u8, free: bool) -> u16
+    ensures { λ r. ⌜ r ≡ bit (free and (eqb (getD (now (lean .entry)) row 0) part or eqb (getD (now (lean .entry)) (m + column) 0) part)) ⌝ }
 {
     let at_row = byte_of(lean, wide(row));
     let at_column = byte_of(lean, wide(m) + wide(column));
-    either_of(at_row == part, at_column == part)
+    if free {
+        return once(at_row == part, at_column == part);
+    }
+    0
 }
 
 // The row and the column of a nonzero lean to different parts.
@@ -108,12 +118,12 @@ pub fn weigh_all(
         let row = row_of(list, t);
         let column = column_of(list, t);
         let free = untaken_by(marks, m, row, column);
-        let first = leans_by(lean, m, row, column, 0);
-        let second = leans_by(lean, m, row, column, 1);
+        let first = stake_by(lean, m, row, column, 0, free);
+        let second = stake_by(lean, m, row, column, 1, free);
         let conflict = conflict_by(lean, m, row, column);
         weigh(weights, m, row, column, free);
-        zero = zero + bit_of(both_of(free, first));
-        one = one + bit_of(both_of(free, second));
+        zero = zero + first;
+        one = one + second;
         conflicts = conflicts + bit_of(conflict);
         t = t + 1;
     }

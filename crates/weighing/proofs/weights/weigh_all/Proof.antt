@@ -1,19 +1,20 @@
 -- `weighing::weights::weigh_all` meets its contract. The invariant: the counts and the weights are those of the nonzeros passed.
 -- Assumes nothing.
 use borrow.Author.Needs.{needs}
+use mathlib.Core.Bool.{Bool}
 use mathlib.Core.Path.{_≡_, refl, sym, _∙_, ap}
 use Prim.Native.Nat.{ℕ, _+_, _-_, _≤_, _<_}
 use native.Mathlib.Omega.{arith}
 use lib.ListN.{getD}
-use Rattle.counting.specs.Tests.{_and_, pick}
+use Rattle.counting.specs.Tests.{_and_, pick, bit}
 use Rattle.counting.proofs.Joined.{bit-le-one}
 use Rattle.model.specs.Pattern.{patternOf, on}
 use Rattle.model.specs.Bound.{untaken}
 use Rattle.weighing.specs.Cells.{markingIn, raised}
 use Rattle.weighing.specs.Weights.{leansIn, conflictIn}
-use Rattle.weighing.proofs.Steps.{bit-named, and-named, raise-named}
+use Rattle.weighing.proofs.Steps.{bit-named, raise-named}
 use Rattle.weighing.proofs.Taken.{on-code}
-use Rattle.weighing.proofs.Weighed.{untaken-code, leans-code, conflict-code, WeighsTo, WeighsMore, weighs-start, weighs-more, weighs-end, stakes-small}
+use Rattle.weighing.proofs.Weighed.{untaken-code, stake-code, conflict-code, WeighsTo, WeighsMore, weighs-start, weighs-more, weighs-end, stakes-small}
 use Rattle.weighing.proofs.weights.weigh_all.Statement.{statement}
 use Rattle.weighing.proofs.weights.weigh_all.Tie as tie
 
@@ -24,6 +25,10 @@ Inv-loop m n nonzeros list marks lean weights₀ zero₀ one₀ conflicts₀ t�
 
 abbrev μ-loop : tie.MeasureT-loop
 μ-loop m n nonzeros list marks lean weights₀ zero₀ one₀ conflicts₀ t₀ weights zero one conflicts t = nonzeros - t
+
+-- what a nonzero adds is at most 1
+bit-small : (r : ℕ) (b : Bool) → r ≡ bit b → r ≤ 1
+bit-small r b e = omega (arith, bit-le-one b)
 
 clear-requires : tie.Need-clear-requires Inv-loop μ-loop
 clear-requires c κs = search needs
@@ -54,11 +59,11 @@ free-is c =
 first-is :
     (c : tie.After-conflict-by Inv-loop μ-loop) →
     let a = c .before .before .before .before .before .before .before .before .before .before .before .args in
-    c .before .before .leans-by .result
-    ≡ leansIn (patternOf (a .m) (a .n) (a .nonzeros) (a .list .now)) (a .lean .now) 0 (c .before .before .before .before .before .before .before .loop .t)
+    c .before .before .stake-by .result
+    ≡ bit (untaken (patternOf (a .m) (a .n) (a .nonzeros) (a .list .now)) (markingIn (a .marks .now)) (c .before .before .before .before .before .before .before .loop .t) and leansIn (patternOf (a .m) (a .n) (a .nonzeros) (a .list .now)) (a .lean .now) 0 (c .before .before .before .before .before .before .before .loop .t))
 first-is c =
     let a = c .before .before .before .before .before .before .before .before .before .before .before .args in
-    leans-code
+    stake-code
     (a .m)
     (a .n)
     (a .nonzeros)
@@ -68,20 +73,22 @@ first-is c =
     (c .before .before .before .before .before .before .before .loop .t)
     (c .before .before .before .before .before .row-of .result)
     (c .before .before .before .before .column-of .result)
-    (c .before .before .leans-by .result)
+    0
+    (c .before .before .stake-by .result)
+    (c .before .before .before .untaken-by .result)
     (c .before .before .before .before .before .row-of .ensures)
     (c .before .before .before .before .column-of .ensures)
-    0
-    (c .before .before .leans-by .ensures)
+    (free-is c)
+    (c .before .before .stake-by .ensures)
 
 second-is :
     (c : tie.After-conflict-by Inv-loop μ-loop) →
     let a = c .before .before .before .before .before .before .before .before .before .before .before .args in
-    c .before .leans-by2 .result
-    ≡ leansIn (patternOf (a .m) (a .n) (a .nonzeros) (a .list .now)) (a .lean .now) 1 (c .before .before .before .before .before .before .before .loop .t)
+    c .before .stake-by2 .result
+    ≡ bit (untaken (patternOf (a .m) (a .n) (a .nonzeros) (a .list .now)) (markingIn (a .marks .now)) (c .before .before .before .before .before .before .before .loop .t) and leansIn (patternOf (a .m) (a .n) (a .nonzeros) (a .list .now)) (a .lean .now) 1 (c .before .before .before .before .before .before .before .loop .t))
 second-is c =
     let a = c .before .before .before .before .before .before .before .before .before .before .before .args in
-    leans-code
+    stake-code
     (a .m)
     (a .n)
     (a .nonzeros)
@@ -91,11 +98,13 @@ second-is c =
     (c .before .before .before .before .before .before .before .loop .t)
     (c .before .before .before .before .before .row-of .result)
     (c .before .before .before .before .column-of .result)
-    (c .before .leans-by2 .result)
+    1
+    (c .before .stake-by2 .result)
+    (c .before .before .before .untaken-by .result)
     (c .before .before .before .before .before .row-of .ensures)
     (c .before .before .before .before .column-of .ensures)
-    1
-    (c .before .leans-by2 .ensures)
+    (free-is c)
+    (c .before .stake-by2 .ensures)
 
 conflict-is :
     (c : tie.After-conflict-by Inv-loop μ-loop) →
@@ -166,11 +175,11 @@ column-of-requires c κs = search needs
 untaken-by-requires : tie.Need-untaken-by-requires Inv-loop μ-loop
 untaken-by-requires c κs = search needs
 
-leans-by-requires : tie.Need-leans-by-requires Inv-loop μ-loop
-leans-by-requires c κs = search needs
+stake-by-requires : tie.Need-stake-by-requires Inv-loop μ-loop
+stake-by-requires c κs = search needs
 
-leans-by-requires-2 : tie.Need-leans-by-requires-2 Inv-loop μ-loop
-leans-by-requires-2 c κs = search needs
+stake-by-requires-2 : tie.Need-stake-by-requires-2 Inv-loop μ-loop
+stake-by-requires-2 c κs = search needs
 
 conflict-by-requires : tie.Need-conflict-by-requires Inv-loop μ-loop
 conflict-by-requires c κs = search needs
@@ -178,73 +187,55 @@ conflict-by-requires c κs = search needs
 weigh-requires : tie.Need-weigh-requires Inv-loop μ-loop
 weigh-requires c κs = search needs
 
-both-of-requires : tie.Need-both-of-requires Inv-loop μ-loop
-both-of-requires c κs = search needs
-
-bit-of-requires : tie.Need-bit-of-requires Inv-loop μ-loop
-bit-of-requires c κs = search needs
-
 add-zero : tie.Need-add-zero Inv-loop μ-loop
 add-zero c =
     omega (
       arith,
-      stakes-small (c .before .before .before .before .before .before .before .before .before .before .before .loop .inv .1) .0,
-      c .bit-of .ensures,
-      bit-le-one (c .before .both-of .result),
+      stakes-small (c .before .before .before .before .before .before .before .before .before .loop .inv .1) .0,
+      bit-small _ _ (first-is (c .before .before)),
     )
-
-both-of-requires-2 : tie.Need-both-of-requires-2 Inv-loop μ-loop
-both-of-requires-2 c κs = search needs
-
-bit-of-requires-2 : tie.Need-bit-of-requires-2 Inv-loop μ-loop
-bit-of-requires-2 c κs = search needs
 
 add-one : tie.Need-add-one Inv-loop μ-loop
 add-one c =
     omega (
       arith,
-      stakes-small (c .before .before .before .before .before .before .before .before .before .before .before .before .before .loop .inv .1) .1,
-      c .bit-of2 .ensures,
-      bit-le-one (c .before .both-of2 .result),
+      stakes-small (c .before .before .before .before .before .before .before .before .before .loop .inv .1) .1,
+      bit-small _ _ (second-is (c .before .before)),
     )
 
-bit-of-requires-3 : tie.Need-bit-of-requires-3 Inv-loop μ-loop
-bit-of-requires-3 c κs = search needs
+bit-of-requires : tie.Need-bit-of-requires Inv-loop μ-loop
+bit-of-requires c κs = search needs
 
 add-conflicts : tie.Need-add-conflicts Inv-loop μ-loop
 add-conflicts c =
     omega (
       arith,
-      stakes-small (c .before .before .before .before .before .before .before .before .before .before .before .before .before .before .loop .inv .1) .2,
-      c .bit-of3 .ensures,
-      bit-le-one (c .before .before .before .before .before .before .before .conflict-by .result),
-      c .before .before .before .before .before .before .before .before .before .before .before .before .before .loop-test .taken,
-      c .before .before .before .before .before .before .before .before .before .before .before .before .before .before .before .before .before .before .fits,
+      stakes-small (c .before .before .before .before .before .before .before .before .before .before .loop .inv .1) .2,
+      c .bit-of .ensures,
+      bit-le-one (c .before .before .before .conflict-by .result),
+      c .before .before .before .before .before .before .before .before .before .loop-test .taken,
+      c .before .before .before .before .before .before .before .before .before .before .before .before .before .before .fits,
     )
 
 add-t : tie.Need-add-t Inv-loop μ-loop
-add-t c =
-    omega (
-      arith,
-      c .before .before .before .before .before .before .before .before .before .before .before .before .before .loop-test .taken,
-      c .before .before .before .before .before .before .before .before .before .before .before .before .before .before .before .before .before .before .fits,
-    )
+add-t c = omega (arith, c .before .before .before .before .before .before .before .before .before .loop-test .taken, c .before .before .before .before .before .before .before .before .before .before .before .before .before .before .fits)
 
 loop-less : tie.Need-loop-less Inv-loop μ-loop
 loop-less c = omega arith
 
 loop-again : tie.Need-loop-again Inv-loop μ-loop
 loop-again c =
-    let h = c .before .before .before .before .before .before .before in (
+    let h = c .before .before .before in
+    let l = c .before .before .before .before .before .before .before .before .before .before .loop in (
       omega arith,
       weighs-more
-          (omega (arith, c .before .before .before .before .before .before .before .before .before .before .before .before .before .before .before .before .before .before .fits))
-          (c .before .before .before .before .before .before .before .before .before .before .before .before .before .before .loop .inv .1)
+          (omega (arith, c .before .before .before .before .before .before .before .before .before .before .before .before .before .before .fits))
+          (c .before .before .before .before .before .before .before .before .before .before .loop .inv .1)
           (record {
-            zero-more = bit-named _ _ _ _ (c .before .before .before .bit-of .ensures) (and-named _ _ _ _ _ (c .before .before .before .before .both-of .ensures) (free-is h) (first-is h));
-            one-more = bit-named _ _ _ _ (c .before .bit-of2 .ensures) (and-named _ _ _ _ _ (c .before .before .both-of2 .ensures) (free-is h) (second-is h));
-            conflicts-more = bit-named _ _ _ _ (c .bit-of3 .ensures) (conflict-is h);
-            stored = stored (c .before .before .before .before .before);
+            zero-more = ap (λ (k : ℕ). l .zero + k) (first-is h);
+            one-more = ap (λ (k : ℕ). l .one + k) (second-is h);
+            conflicts-more = bit-named _ _ _ _ (c .bit-of .ensures) (conflict-is h);
+            stored = stored (c .before);
           }),
     )
 
@@ -263,17 +254,13 @@ weigh-all-spec =
     row-of-requires
     column-of-requires
     untaken-by-requires
-    leans-by-requires
-    leans-by-requires-2
+    stake-by-requires
+    stake-by-requires-2
     conflict-by-requires
     weigh-requires
-    both-of-requires
-    bit-of-requires
     add-zero
-    both-of-requires-2
-    bit-of-requires-2
     add-one
-    bit-of-requires-3
+    bit-of-requires
     add-conflicts
     add-t
     loop-less
