@@ -37,7 +37,7 @@ use Rattle.model.proofs.Theorems.Accepted.{ListFine, list-accepted, accepted-in
 use Rattle.model.proofs.Theorems.Least.{Least, floor-below-volume, shown-within, complete-least, split-exists}
 use Rattle.model.proofs.Theorems.Ends.{mostTries, walked-tries, walked-adds, walked-fine}
 use Rattle.search.specs.History.{acceptedBudget, History, opened, ran, showed, Within, DemandAt, Demand, Throughout, Demand3}
-use Rattle.search.proofs.Held.{record-back, few-lines}
+use Rattle.state.proofs.Held.{record-back, few-lines}
 
 -- a refusal is no acceptance
 verdicts-differ : {A : Type 0} {word : Word} {place : ℕ} → Refused word place ≡ Accepted → A

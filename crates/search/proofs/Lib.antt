@@ -1,15 +1,10 @@
-pub mod Held
-pub mod Cleared
 pub mod Openings
 pub mod Tries
-pub mod Legals
 pub mod Runs
 pub mod TryLaws
 pub mod RunLaws
-pub mod States
-pub mod StateLaws
-pub mod Validities
 pub mod Budgets
 pub mod Answered
-pub mod Normal
 pub mod Demand3
+pub mod Shows
+pub mod Splits

@@ -40,13 +40,3 @@ unfolding openCall openedAfter
 open-refused m n nonzeros list cap word place s h d =
     ap (openedBy (Refused word place)) d
     ∙ ap (λ (v : Verdict). openedBy v (openedAfter v (patternOf m n nonzeros list) cap)) (sym h)
-
--- the number of lines with nonzeros, from the counts of lines
-pub total-of-counts :
-    (m n nonzeros : ℕ) (list counts : List ℕ) (total : ℕ) → m ≤ 255 → n ≤ 255 →
-    ((i : ℕ) → i < 512 → getD counts i 0 ≡ lineCount (patternOf m n nonzeros list) i) →
-    total ≡ totalBy counts (m + n) → total ≡ lineTotal (patternOf m n nonzeros list)
-total-of-counts m n nonzeros list counts total a b h e =
-    e
-    ∙ ap (totalBy counts) (sym (lines-of m n nonzeros list))
-    ∙ total-is (patternOf m n nonzeros list) counts (omega (arith, lines-small m n nonzeros list a b)) h

@@ -14,8 +14,8 @@ use Rattle.model.specs.Walk.{Record, Rules, advance, tried, improved, tryOnce, 
 use Rattle.model.specs.State.{recordOf, searchOf}
 use Rattle.model.proofs.Walk.Steps.{try-keeps, step-tries, walk-keeps, walk-adds, complete-stays}
 use Rattle.model.proofs.Walk.Left.{advance-length}
-use Rattle.search.specs.Ready.{Fits}
-use Rattle.search.proofs.Held.{record-back}
+use Rattle.state.specs.Ready.{Fits}
+use Rattle.state.proofs.Held.{record-back}
 
 -- a try keeps it so
 try-fits : (R : Rules) (r : Record) → Fits (R .k) r → Fits (R .k) (tryOnce R r)

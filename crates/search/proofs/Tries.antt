@@ -21,23 +21,8 @@ use Rattle.model.proofs.Order.Mirrored.{stack-eq}
 use Rattle.marking.specs.declared.trail.Stack.{Stack}
 use Rattle.marking.specs.Stack.{stackOf, cell, appended, advanced}
 use Rattle.marking.proofs.Trails.{appended-is, advanced-is}
-use Rattle.search.specs.Trying.{stackIn, trailBack, cutsIn, triedTo, triedBy, improvedBy, outcomeBy}
-
--- no cuts before the first mark
-pub cuts-none : (marks : List ℕ) → cutsIn marks 0 ≡ 0
-unfolding cutsIn cuts stack
-cuts-none marks = refl
-
--- one mark more, cut or not
-pub cuts-more : (marks : List ℕ) (i : ℕ) → cell marks i ≡ 2 → cutsIn marks (i + 1) ≡ cutsIn marks i + 1
-unfolding cutsIn cuts stack
-cuts-more marks i h =
-    ap (cutsIn marks) (add-one i) ∙ omega (arith, bit-true (eqb (cell marks i) 2) (eq-eqb (cell marks i) 2 h))
-
-pub cuts-same : (marks : List ℕ) (i : ℕ) → (cell marks i ≡ 2 → ⊥) → cutsIn marks (i + 1) ≡ cutsIn marks i
-unfolding cutsIn cuts stack
-cuts-same marks i h =
-    ap (cutsIn marks) (add-one i) ∙ omega (arith, bit-false (eqb (cell marks i) 2) (ne-eqb (cell marks i) 2 h))
+use Rattle.state.specs.Legal.{cutsIn}
+use Rattle.search.specs.Trying.{stackIn, trailBack, triedTo, triedBy, improvedBy, outcomeBy}
 
 -- the cut lines of a marking in its array
 pub cuts-of : (τ : List ℕ) → length τ ≤ 240 → cutsIn (arrayOf τ) (length τ) ≡ cuts τ
@@ -53,7 +38,7 @@ cuts-of τ b =
     ∙ array-stack τ b)
 
 -- a trail that holds a marking, as a stack
-stack-in : (τ : List ℕ) → stackIn (trailOf τ) ≡ stackOf τ
+pub stack-in : (τ : List ℕ) → stackIn (trailOf τ) ≡ stackOf τ
 unfolding stackIn trailOf stackOf
 stack-in τ = refl
 

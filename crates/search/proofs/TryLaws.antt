@@ -18,8 +18,8 @@ use Rattle.model.specs.Walk.{Record, rulesOf, stands, outcome, tryOnce}
 use Rattle.model.specs.State.{arrayOf, trailOf, searchOf}
 use Rattle.bound.specs.declared.Evaluation.{Evaluation}
 use Rattle.bound.specs.Evaluated.{Listed, Placed, Evaluates}
-use Rattle.search.specs.Trying.{outcomeBy}
-use Rattle.search.specs.Ready.{Ready, Fits, standsBy}
+use Rattle.search.specs.Trying.{standsBy, outcomeBy}
+use Rattle.state.specs.Ready.{Ready, Fits}
 use Rattle.search.proofs.Tries.{outcome-is}
 
 -- an evaluated marking stands as the marking does

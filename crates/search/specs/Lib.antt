@@ -1,6 +1,4 @@
 pub mod History
-pub mod Holding
 pub mod Trying
-pub mod Legal
-pub mod StateBy
-pub mod Ready
+pub mod Running
+pub mod Showing

@@ -2,18 +2,15 @@
 -- Assumes nothing.
 use mathlib.Core.Bool.{Bool, true, false}
 use mathlib.Core.List.{List}
-use Prim.Native.Nat.{ℕ, _+_, _-_}
-use lib.Dec.{eqb}
+use Prim.Native.Nat.{ℕ, _+_}
+use lib.Dec.{eqb, ltb}
+use Rattle.counting.specs.Tests.{_and_}
 use Rattle.model.specs.declared.Trail.{Trail}
 use Rattle.model.specs.declared.Search.{Search}
-use Rattle.model.specs.Walk.{cuts}
-use Rattle.model.specs.State.{stack}
 use Rattle.marking.specs.declared.trail.Stack.{Stack}
-use Rattle.marking.specs.Stack.{cell, appended, advanced}
-
--- a trail without its last mark
-unfoldable pub shorter : Trail → Trail
-shorter trail = record { marks = trail .marks; len = trail .len - 1 }
+use Rattle.marking.specs.Stack.{appended, advanced}
+use Rattle.bound.specs.declared.Evaluation.{Evaluation}
+use Rattle.state.specs.Legal.{cutsIn}
 
 -- a trail as a stack
 unfoldable pub stackIn : Trail → Stack
@@ -22,10 +19,6 @@ stackIn trail = record { marks = trail .marks; len = trail .len }
 -- a stack as a trail
 unfoldable pub trailBack : Stack → Trail
 trailBack stack = record { marks = stack .marks; len = stack .len }
-
--- the number of marks cut before an index
-unfoldable pub cutsIn : List ℕ → ℕ → ℕ
-cutsIn marks end = cuts (stack (cell marks) end)
 
 -- one try more, after which this is the trail
 unfoldable pub triedTo : Search → Trail → Search
@@ -68,3 +61,7 @@ unfoldable pub outcomeBy : Bool → Bool → Search → Search
 outcomeBy true true s = triedBy s (appended (stackIn (s .trail)) 0)
 outcomeBy true false s = triedBy (improvedBy s) (advanced (stackIn (s .trail)))
 outcomeBy false shorter s = triedBy s (advanced (stackIn (s .trail)))
+
+-- an evaluated trail stands against a best count
+unfoldable pub standsBy : Evaluation → ℕ → Bool
+standsBy judged best = judged .valid and ltb (judged .bound) best

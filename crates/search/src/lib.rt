@@ -1,6 +1,63 @@
 // The search: opening, run and showing.
-pub mod holding;
-pub mod legal;
-pub mod opening;
-pub mod state;
+use crate::presenting::show_search;
+use crate::trying::running::run_search;
+use model::Opened;
+use model::Ran;
+use model::Search;
+use model::ShowAnswer;
+use model::Verdict;
+use pattern::checks::open_verdict;
+use state::holding::fresh_search;
+use state::holding::no_search;
+use state::lines::line_total;
+ghost use mathlib.Core.Path.{_≡_};
+ghost use Rattle.model.specs.Calls.{openCall, runCall, showCall, showParts};
+
+pub mod presenting;
 pub mod trying;
+
+// Opens a search of a pattern under a cap.
+pub fn open(m: u64, n: u64, nonzeros: u64, list: &[u8], cap: u64) -> Opened
+    ensures { λ r. ⌜ r ≡ openCall m n nonzeros (now (list .entry)) cap ⌝ }
+{
+    let verdict = open_verdict(m, n, nonzeros, list, cap);
+    match verdict {
+        Verdict::Accepted => {
+            let k = line_total(m as u8, n as u8, nonzeros as u16, list);
+            let search = fresh_search(m, n, nonzeros, cap, k);
+            Opened {
+                verdict: Verdict::Accepted,
+                search,
+            }
+        }
+        Verdict::Refused(word, place) => {
+            let search = no_search();
+            Opened {
+                verdict: Verdict::Refused(word, place),
+                search,
+            }
+        }
+    }
+}
+
+// Makes a budget of tries, or fewer only because the search became complete.
+pub fn run(search: Search, m: u64, n: u64, nonzeros: u64, list: &[u8], budget: u64) -> Ran
+    ensures { λ a. ⌜ a ≡ runCall search m n nonzeros (now (list .entry)) budget ⌝ }
+{
+    run_search(search, m, n, nonzeros, list, budget)
+}
+
+// Shows the split of the best marking in the parts, with its volume and the floor, or "none yet" and the floor.
+pub fn show(
+    search: Search,
+    m: u64,
+    n: u64,
+    nonzeros: u64,
+    list: &[u8],
+    parts: &mut [u8],
+) -> ShowAnswer
+    ensures answer { λ a. ⌜ a ≡ showCall search m n nonzeros (now (list .entry)) (now (parts .entry)) ⌝ }
+    ensures parts { λ a. ⌜ now (parts .exit) ≡ showParts search m n nonzeros (now (list .entry)) (now (parts .entry)) ⌝ }
+{
+    show_search(search, m, n, nonzeros, list, parts)
+}

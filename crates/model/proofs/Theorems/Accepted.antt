@@ -42,6 +42,15 @@ unfolding refuse
 refuse-not true word place h = refused-not h
 refuse-not false word place h = refl
 
+-- a check whose test passes refuses, and one whose test fails does not
+pub refuse-so : (test : Bool) (word : Word) (place : ℕ) → test ≡ true → refuse test word place ≡ Refused word place
+unfolding refuse
+refuse-so test word place h = rw h
+
+pub refuse-no : (test : Bool) (word : Word) (place : ℕ) → test ≡ false → refuse test word place ≡ Accepted
+unfolding refuse
+refuse-no test word place h = rw h
+
 -- a list that is accepted: sizes in range, bytes enough, and each nonzero in the matrix and behind the one before it
 pub record ListFine (m n nonzeros : ℕ) (list : List ℕ) : Type 0 where
   pub rows-from : 1 ≤ m

@@ -2,7 +2,7 @@
 -- Assumes nothing.
 use mathlib.Core.Path.{sym}
 use Rattle.counting.proofs.Joined.{and-passed, and-fails-left}
-use Rattle.search.specs.Ready.{standsBy}
+use Rattle.search.specs.Trying.{standsBy}
 use Rattle.search.proofs.trying.judged_stands.Statement.{statement}
 use Rattle.search.proofs.trying.judged_stands.Tie as tie
 

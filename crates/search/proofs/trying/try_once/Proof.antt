@@ -5,7 +5,7 @@ use mathlib.Core.Bool.{Bool}
 use Prim.Native.Nat.{ℕ}
 use lib.Dec.{ltb}
 use Rattle.search.specs.Trying.{outcomeBy}
-use Rattle.search.specs.Ready.{standsBy}
+use Rattle.search.specs.Trying.{standsBy}
 use Rattle.search.proofs.Tries.{outcome-tries}
 use Rattle.search.proofs.TryLaws.{try-is}
 use borrow.Author.Needs.{needs}

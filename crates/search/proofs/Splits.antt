@@ -1,0 +1,64 @@
+-- The split that a marking shows, written by its marks by line, and its volume.
+-- Assumes nothing.
+use mathlib.Core.List.{List}
+use mathlib.Core.Path.{_≡_, refl, sym, _∙_, ap}
+use Prim.Native.Nat.{ℕ, _+_, _≤_, _<_}
+use native.Mathlib.Omega.{arith}
+use lib.ListN.{length, getD}
+use Rattle.model.specs.declared.Part.the-variants.{Zero}
+use Rattle.model.specs.declared.Trail.{Trail}
+use Rattle.model.specs.Pattern.{Pattern, patternOf}
+use Rattle.model.specs.Split.{volume}
+use Rattle.model.specs.Marking.{marking, taken}
+use Rattle.model.specs.Walk.{shownSplit}
+use Rattle.model.specs.State.{marksIn, arrayOf, trailOf}
+use Rattle.model.specs.Calls.{shownFrom, partBytes}
+use Rattle.pattern.specs.Splits.{splitOf}
+use Rattle.marking.specs.Marks.{markBy}
+use Rattle.weighing.specs.Cells.{markingIn}
+use Rattle.bound.specs.declared.Evaluation.{Evaluation}
+use Rattle.bound.specs.Evaluated.{Listed, Placed, Evaluates}
+use Rattle.bound.proofs.Evaluations.{by-line}
+use Rattle.showing.proofs.Same.{shown-bytes-same, volume-back}
+use Rattle.state.specs.Holding.{clearedTo}
+use Rattle.state.proofs.Normal.{cleared-is}
+use Rattle.state.proofs.StateLaws.{marks-length}
+
+trail-parts : (τ : List ℕ) → (trailOf τ .marks ≡ arrayOf τ) × (trailOf τ .len ≡ length τ)
+unfolding trailOf
+trail-parts τ = (refl, refl)
+
+pub size-is : (m n nonzeros : ℕ) (list : List ℕ) → patternOf m n nonzeros list .size ≡ nonzeros
+unfolding patternOf
+size-is m n nonzeros list = refl
+
+module _
+    (m n nonzeros : ℕ) (list places starts : List ℕ) (cap : ℕ) (best kept : Trail) (entries parts new : List ℕ) (judged : Evaluation)
+    (clears : kept ≡ clearedTo best)
+    (marked : (l : ℕ) → l < m + n → markingIn entries l ≡ markBy (kept .marks) (kept .len) (getD places l 0))
+    (judges : Listed m n nonzeros list starts → Evaluates (patternOf m n nonzeros list) cap (markingIn entries) judged)
+    (writes : judged .zero ≡ taken (patternOf m n nonzeros list) (markingIn entries) Zero → new ≡ partBytes (shownSplit (patternOf m n nonzeros list) cap (markingIn entries)) nonzeros parts)
+    (listed : Listed m n nonzeros list starts) (placed : Placed (patternOf m n nonzeros list) places) (short : best .len ≤ 240) where
+  -- the parts, where the marks by line are those of the marking
+  pub parts-shown : new ≡ partBytes (shownFrom (patternOf m n nonzeros list) cap (marksIn best)) nonzeros parts
+  unfolding shownFrom
+  parts-shown =
+      let P = patternOf m n nonzeros list in
+      let τ = marksIn best in
+      let held = clears ∙ cleared-is best short in
+      let same = by-line m n nonzeros list places (kept .marks) entries (kept .len) marked placed τ (omega (arith, marks-length best)) (ap (λ (t : Trail). t .marks) held ∙ trail-parts τ .0) (ap (λ (t : Trail). t .len) held ∙ trail-parts τ .1) in
+      writes (judges listed .zero-is)
+      ∙ ap (λ (x : ℕ). partBytes (shownSplit P cap (markingIn entries)) x parts) (sym (size-is m n nonzeros list))
+      ∙ shown-bytes-same P cap (markingIn entries) (marking P τ) (listed .inside) same parts
+      ∙ ap (λ (x : ℕ). partBytes (shownSplit P cap (marking P τ)) x parts) (size-is m n nonzeros list)
+
+  -- and the volume read off them
+  pub volume-shown :
+      (r : ℕ) → nonzeros ≤ length parts → r ≡ volume (patternOf m n nonzeros list) (splitOf new) →
+      r ≡ volume (patternOf m n nonzeros list) (shownFrom (patternOf m n nonzeros list) cap (marksIn best))
+  volume-shown r room e =
+      let P = patternOf m n nonzeros list in
+      let σ = shownFrom P cap (marksIn best) in
+      e
+      ∙ ap (λ (b : List ℕ). volume P (splitOf b)) (parts-shown ∙ ap (λ (x : ℕ). partBytes σ x parts) (sym (size-is m n nonzeros list)))
+      ∙ volume-back P σ parts (omega (arith, size-is m n nonzeros list, room))

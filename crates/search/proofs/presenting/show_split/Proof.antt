@@ -1,0 +1,47 @@
+-- `search::presenting::show_split` meets its contract.
+-- Assumes nothing.
+use Rattle.search.proofs.Splits.{parts-shown, volume-shown}
+use borrow.Author.Needs.{needs}
+use Rattle.search.proofs.presenting.show_split.Statement.{statement}
+use Rattle.search.proofs.presenting.show_split.Tie as tie
+
+cleared-requires : tie.Need-cleared-requires
+cleared-requires c κs = search needs
+
+marks-of-requires : tie.Need-marks-of-requires
+marks-of-requires c κs = search needs
+
+evaluate-lines-requires : tie.Need-evaluate-lines-requires
+evaluate-lines-requires c κs = search needs
+
+write-split-requires : tie.Need-write-split-requires
+write-split-requires c κs = search needs
+
+volume-of-requires : tie.Need-volume-of-requires
+volume-of-requires c κs = search needs
+
+same-length : tie.Need-same-length
+same-length c = search needs
+
+returns : tie.Need-returns
+returns c =
+    let w = c .before .before .before .before in
+    let j = c .before .before .before .before .before .before .before in
+    let k = c .before .before .before .before .before .before .before .before .before in
+    let h = c .before .before .before .before .before .before .before .before .before .before .before .before in
+    let a = c .before .before .before .before .before .before .before .before .before .before .before .before .before .before .before .args in
+    let parts = parts-shown (a .m) (a .n) (a .nonzeros) (a .list .now) (a .places .now) (a .starts .now) (a .cap) (a .best) (h .cleared .result) (k .marks-of .result) (a .parts .now) _ (j .evaluate-lines .result) (h .cleared .ensures) (k .marks-of .ensures) (j .evaluate-lines .ensures) (w .write-split .ensures) in
+    let volume = volume-shown (a .m) (a .n) (a .nonzeros) (a .list .now) (a .places .now) (a .starts .now) (a .cap) (a .best) (h .cleared .result) (k .marks-of .result) (a .parts .now) _ (j .evaluate-lines .result) (h .cleared .ensures) (k .marks-of .ensures) (j .evaluate-lines .ensures) (w .write-split .ensures) in
+    (λ listed placed short room. volume listed placed short (c .volume-of .result) room (c .volume-of .ensures), λ listed placed short. parts listed placed short)
+
+pub show-split-spec : {M : Type 1} → statement M
+show-split-spec =
+    tie.close
+    (tie.spec
+    cleared-requires
+    marks-of-requires
+    evaluate-lines-requires
+    write-split-requires
+    volume-of-requires
+    same-length
+    returns)

@@ -1,0 +1,58 @@
+-- `search::run_fine` meets its contract.
+-- Assumes nothing.
+use mathlib.Core.Path.{_≡_, sym, _∙_, ap}
+use native.Mathlib.Omega.{arith}
+use Rattle.model.specs.declared.Verdict.the-variants.{Accepted}
+use Rattle.pattern.proofs.Verdicts.{accepted-tag}
+use Rattle.search.specs.Running.{budgetBy}
+use Rattle.search.proofs.Budgets.{budget-within, normal-tries, run-taken, run-refused}
+use borrow.Author.Needs.{needs}
+use Rattle.search.proofs.trying.running.run_fine.Statement.{statement}
+use Rattle.search.proofs.trying.running.run_fine.Tie as tie
+
+-- in the first arm the budget is accepted
+accepted :
+    (c : tie.At-match-keys1) →
+    let a = c .before .before .before .args in
+    budgetBy (a .search .tries) (a .budget) ≡ Accepted
+accepted c = sym (c .before .budget-verdict .ensures) ∙ accepted-tag _ (c .match .keys1)
+
+budget-verdict-requires : tie.Need-budget-verdict-requires
+budget-verdict-requires c κs = search needs
+
+enum-told : tie.Need-enum-told
+enum-told c = search needs
+
+normal-requires : tie.Need-normal-requires
+normal-requires c κs = search needs
+
+run-from-requires : tie.Need-run-from-requires
+run-from-requires c κs = omega (arith, budget-within _ _ (accepted (c .before .before)), normal-tries _ _ (c .normal .ensures))
+
+ended-as-requires : tie.Need-ended-as-requires
+ended-as-requires c κs = search needs
+
+enum-known-verdict : tie.Need-enum-known-verdict
+enum-known-verdict c = search needs
+
+returns : tie.Need-returns
+returns c =
+    let b = c .before .before .before .before in
+    let a = b .before .before .before .args in
+    run-taken (a .rows) (a .columns) (a .size) (a .list .now) (a .places .now) (a .starts .now) (a .k) (a .budget) (a .search) (c .before .before .normal .result) (c .before .run-from .result) (c .ended-as .result) (b .before .budget-verdict .result) (b .before .budget-verdict .ensures) (accepted-tag _ (b .match .keys1)) (c .before .before .normal .ensures) (c .before .run-from .ensures) (c .ended-as .ensures)
+
+returns-2 : tie.Need-returns-2
+returns-2 c = λ ready fits normal. run-refused _ _ _ _ _ _ (sym (c .before .before .before .budget-verdict .ensures) ∙ c .before .verdict .given .1)
+
+pub run-fine-spec : {M : Type 1} → statement M
+run-fine-spec =
+    tie.close
+    (tie.spec
+    budget-verdict-requires
+    enum-told
+    normal-requires
+    run-from-requires
+    ended-as-requires
+    enum-known-verdict
+    returns
+    returns-2)

@@ -1,0 +1,197 @@
+// A showing: the split in the lent parts, its volume, and the floor.
+use crate::trying::stack_of;
+use bound::evaluating::evaluate_lines;
+use bound::evaluating::marks_of;
+use bound::tables::places;
+use flooring::least::least_open;
+use matching::starts::row_starts;
+use model::Search;
+use model::ShowAnswer;
+use model::Trail;
+use model::Verdict;
+use model::Word;
+use pattern::checks::list_verdict;
+use pattern::reading::wide16;
+use pattern::splits::volume_of;
+use showing::write_split;
+use state::checking::state_fine;
+use state::holding::cleared;
+use state::lines::line_total;
+ghost use mathlib.Core.Path.{_≡_};
+ghost use Prim.Native.Nat.{_≤_};
+ghost use lib.ListN.{length};
+ghost use Rattle.model.specs.declared.Verdict.the-variants.{Accepted};
+ghost use Rattle.model.specs.Pattern.{patternOf};
+ghost use Rattle.model.specs.Split.{volume};
+ghost use Rattle.model.specs.Walk.{rulesOf, floor};
+ghost use Rattle.model.specs.State.{marksIn, recordOf};
+ghost use Rattle.model.specs.Calls.{listVerdict, shownFrom, partBytes, shownAfter, partsAfter, showCall, showParts};
+ghost use Rattle.bound.specs.Evaluated.{Listed, Placed};
+ghost use Rattle.state.specs.Ready.{Fits, Ready};
+ghost use Rattle.search.specs.Showing.{roomBy};
+
+// The floor of a search.
+pub fn floor_of(
+    search: Search,
+    m: u8,
+    n: u8,
+    nonzeros: u16,
+    list: &[u8],
+    places: &[u16; 512],
+    starts: &[u16; 257],
+) -> u64
+    ensures { λ r. ⌜ (Listed m n nonzeros (now (list .entry)) (now (starts .entry)) →
+        Placed (patternOf m n nonzeros (now (list .entry))) (now (places .entry)) → search .trail .len ≤ 240 →
+        r ≡ floor (rulesOf (patternOf m n nonzeros (now (list .entry))) (search .cap)) (recordOf search)) ⌝ }
+{
+    let best = search.best_count;
+    if search.complete {
+        return best;
+    }
+    let trail = stack_of(cleared(search.trail));
+    least_open(
+        m,
+        n,
+        nonzeros,
+        list,
+        search.cap,
+        places,
+        starts,
+        trail,
+        best,
+    )
+}
+
+// Writes the split that a marking shows to the parts, and gives its volume.
+pub fn show_split(
+    best: Trail,
+    m: u8,
+    n: u8,
+    nonzeros: u16,
+    list: &[u8],
+    cap: u64,
+    places: &[u16; 512],
+    starts: &[u16; 257],
+    parts: &mut [u8],
+) -> u64
+    ensures volume { λ r. ⌜ (Listed m n nonzeros (now (list .entry)) (now (starts .entry)) →
+        Placed (patternOf m n nonzeros (now (list .entry))) (now (places .entry)) → best .len ≤ 240 →
+        nonzeros ≤ length (now (parts .entry)) →
+        r ≡ volume (patternOf m n nonzeros (now (list .entry))) (shownFrom (patternOf m n nonzeros (now (list .entry))) cap (marksIn best))) ⌝ }
+    ensures parts { λ r. ⌜ (Listed m n nonzeros (now (list .entry)) (now (starts .entry)) →
+        Placed (patternOf m n nonzeros (now (list .entry))) (now (places .entry)) → best .len ≤ 240 →
+        now (parts .exit) ≡ partBytes (shownFrom (patternOf m n nonzeros (now (list .entry))) cap (marksIn best)) nonzeros (now (parts .entry))) ⌝ }
+{
+    let kept = cleared(best);
+    let marks = kept.marks;
+    let by_line = marks_of(m, n, places, &marks, kept.len);
+    let judged = evaluate_lines(m, n, nonzeros, list, cap, starts, &by_line);
+    write_split(m, n, nonzeros, list, cap, &by_line, judged.zero, parts);
+    volume_of(m, n, nonzeros, list, parts)
+}
+
+// A showing of a state that is not refused.
+pub fn show_fine(
+    search: Search,
+    m: u8,
+    n: u8,
+    nonzeros: u16,
+    list: &[u8],
+    places: &[u16; 512],
+    starts: &[u16; 257],
+    k: u16,
+    parts: &mut [u8],
+) -> ShowAnswer
+    ensures answer { λ a. ⌜ (Ready m n nonzeros (now (list .entry)) (now (places .entry)) (now (starts .entry)) k →
+        Fits k (recordOf search) →
+        a ≡ shownAfter (roomBy (now (parts .entry)) nonzeros) (recordOf search) (patternOf m n nonzeros (now (list .entry)))) ⌝ }
+    ensures parts { λ a. ⌜ (Ready m n nonzeros (now (list .entry)) (now (places .entry)) (now (starts .entry)) k →
+        Fits k (recordOf search) →
+        now (parts .exit) ≡ partsAfter (roomBy (now (parts .entry)) nonzeros) (recordOf search) (patternOf m n nonzeros (now (list .entry))) (now (parts .entry))) ⌝ }
+{
+    if parts.len() < wide16(nonzeros) {
+        return ShowAnswer::Refused(Word::ShortBuffer, 0);
+    }
+    let floor = floor_of(search, m, n, nonzeros, list, places, starts);
+    if search.found {
+        let volume = show_split(
+            search.best,
+            m,
+            n,
+            nonzeros,
+            list,
+            search.cap,
+            places,
+            starts,
+            parts,
+        );
+        return ShowAnswer::Split { volume, floor };
+    }
+    ShowAnswer::NoneYet { floor }
+}
+
+// A showing on a list that is accepted.
+fn show_listed(
+    search: Search,
+    m: u64,
+    n: u64,
+    nonzeros: u64,
+    list: &[u8],
+    parts: &mut [u8],
+) -> ShowAnswer
+    requires { ⌜ listVerdict m n nonzeros (now list) ≡ Accepted ⌝ }
+    ensures answer { λ a. ⌜ a ≡ showCall search m n nonzeros (now (list .entry)) (now (parts .entry)) ⌝ }
+    ensures parts { λ a. ⌜ now (parts .exit) ≡ showParts search m n nonzeros (now (list .entry)) (now (parts .entry)) ⌝ }
+{
+    let rows = m as u8;
+    let columns = n as u8;
+    let size = nonzeros as u16;
+    let places = places(rows, columns, size, list);
+    let starts = row_starts(list, size);
+    let k = line_total(rows, columns, size, list);
+    if state_fine(
+        search,
+        m,
+        n,
+        nonzeros,
+        rows,
+        columns,
+        size,
+        list,
+        &places,
+        &starts,
+        k,
+    ) {
+        return show_fine(
+            search,
+            rows,
+            columns,
+            size,
+            list,
+            &places,
+            &starts,
+            k,
+            parts,
+        );
+    }
+    ShowAnswer::Refused(Word::State, 0)
+}
+
+// A showing on any list.
+pub fn show_search(
+    search: Search,
+    m: u64,
+    n: u64,
+    nonzeros: u64,
+    list: &[u8],
+    parts: &mut [u8],
+) -> ShowAnswer
+    ensures answer { λ a. ⌜ a ≡ showCall search m n nonzeros (now (list .entry)) (now (parts .entry)) ⌝ }
+    ensures parts { λ a. ⌜ now (parts .exit) ≡ showParts search m n nonzeros (now (list .entry)) (now (parts .entry)) ⌝ }
+{
+    let listed = list_verdict(m, n, nonzeros, list);
+    match listed {
+        Verdict::Accepted => show_listed(search, m, n, nonzeros, list, parts),
+        Verdict::Refused(word, place) => ShowAnswer::Refused(word, place),
+    }
+}

@@ -1,0 +1,179 @@
+// A run: its list and its state checked, then so many tries.
+use super::try_once;
+use bound::tables::places;
+use matching::starts::row_starts;
+use model::Ran;
+use model::RunAnswer;
+use model::Search;
+use model::Verdict;
+use model::Word;
+use pattern::checks::list_verdict;
+use state::checking::state_fine;
+use state::holding::normal;
+use state::lines::line_total;
+ghost use mathlib.Core.Path.{_≡_};
+ghost use Prim.Native.Nat.{_+_, _≤_};
+ghost use lib.Dec.{ltb};
+ghost use mathlib.Core.Bool.{not};
+ghost use Rattle.counting.specs.Tests.{_and_};
+ghost use Rattle.model.specs.Limits.{triesLimit};
+ghost use Rattle.model.specs.declared.Verdict.the-variants.{Accepted};
+ghost use Rattle.model.specs.Pattern.{patternOf};
+ghost use Rattle.model.specs.Walk.{Record, rulesOf, walk};
+ghost use Rattle.model.specs.State.{recordOf, searchOf};
+ghost use Rattle.model.specs.Calls.{listVerdict, ended, ranAfter, runCall};
+ghost use Rattle.state.specs.Holding.{normalOf};
+ghost use Rattle.state.specs.Ready.{Fits, Ready};
+ghost use Rattle.search.specs.Running.{budgetBy};
+
+// Tries are left, and the search is not complete.
+pub fn goes_on(complete: bool, made: u64, budget: u64) -> bool
+    ensures { λ r. ⌜ r ≡ not complete and ltb made budget ⌝ }
+{
+    if complete {
+        return false;
+    }
+    made < budget
+}
+
+// So many tries, or fewer only because the search became complete.
+fn run_from(
+    search: Search,
+    m: u8,
+    n: u8,
+    nonzeros: u16,
+    list: &[u8],
+    places: &[u16; 512],
+    starts: &[u16; 257],
+    k: u16,
+    budget: u64,
+) -> Search
+    requires { ⌜ search .tries + budget ≤ triesLimit ⌝ }
+    ensures { λ s. ⌜ (Ready m n nonzeros (now (list .entry)) (now (places .entry)) (now (starts .entry)) k →
+        (r : Record) → search ≡ searchOf r → Fits k r →
+        s ≡ searchOf (walk (rulesOf (patternOf m n nonzeros (now (list .entry))) (search .cap)) budget r)) ⌝ }
+{
+    let mut s = search;
+    let mut made = 0u64;
+    while goes_on(s.complete, made, budget) {
+        s = try_once(s, m, n, nonzeros, list, places, starts, k);
+        made += 1;
+    }
+    s
+}
+
+// 13: over a call's range, or tries + budget over the limit.
+pub fn budget_verdict(tries: u64, budget: u64) -> Verdict
+    ensures { λ r. ⌜ r ≡ budgetBy tries budget ⌝ }
+{
+    if 1_000_000 < budget {
+        return Verdict::Refused(Word::Budget, 0);
+    }
+    if 1_000_000_000_000_000 < tries {
+        return Verdict::Refused(Word::Budget, 0);
+    }
+    if 1_000_000_000_000_000 < tries + budget {
+        return Verdict::Refused(Word::Budget, 0);
+    }
+    Verdict::Accepted
+}
+
+// Complete, or stopped otherwise.
+pub fn ended_as(complete: bool) -> RunAnswer
+    ensures { λ r. ⌜ r ≡ ended complete ⌝ }
+{
+    if complete {
+        return RunAnswer::Complete;
+    }
+    RunAnswer::Stopped
+}
+
+// A run of a state that is not refused.
+fn run_fine(
+    search: Search,
+    rows: u8,
+    columns: u8,
+    size: u16,
+    list: &[u8],
+    places: &[u16; 512],
+    starts: &[u16; 257],
+    k: u16,
+    budget: u64,
+) -> Ran
+    ensures { λ a. ⌜ (Ready rows columns size (now (list .entry)) (now (places .entry)) (now (starts .entry)) k →
+        Fits k (recordOf search) → normalOf search ≡ searchOf (recordOf search) →
+        a ≡ ranAfter (budgetBy (search .tries) budget) search (patternOf rows columns size (now (list .entry))) budget) ⌝ }
+{
+    let verdict = budget_verdict(search.tries, budget);
+    match verdict {
+        Verdict::Accepted => {
+            let from = normal(search);
+            let after = run_from(from, rows, columns, size, list, places, starts, k, budget);
+            let answer = ended_as(after.complete);
+            Ran {
+                answer,
+                search: after,
+            }
+        }
+        Verdict::Refused(word, place) => Ran {
+            answer: RunAnswer::Refused(word, place),
+            search,
+        },
+    }
+}
+
+// A run on a list that is accepted.
+fn run_listed(search: Search, m: u64, n: u64, nonzeros: u64, list: &[u8], budget: u64) -> Ran
+    requires { ⌜ listVerdict m n nonzeros (now list) ≡ Accepted ⌝ }
+    ensures { λ a. ⌜ a ≡ runCall search m n nonzeros (now (list .entry)) budget ⌝ }
+{
+    let rows = m as u8;
+    let columns = n as u8;
+    let size = nonzeros as u16;
+    let places = places(rows, columns, size, list);
+    let starts = row_starts(list, size);
+    let k = line_total(rows, columns, size, list);
+    if state_fine(
+        search,
+        m,
+        n,
+        nonzeros,
+        rows,
+        columns,
+        size,
+        list,
+        &places,
+        &starts,
+        k,
+    ) {
+        return run_fine(
+            search,
+            rows,
+            columns,
+            size,
+            list,
+            &places,
+            &starts,
+            k,
+            budget,
+        );
+    }
+    Ran {
+        answer: RunAnswer::Refused(Word::State, 0),
+        search,
+    }
+}
+
+// A run on any list.
+pub fn run_search(search: Search, m: u64, n: u64, nonzeros: u64, list: &[u8], budget: u64) -> Ran
+    ensures { λ a. ⌜ a ≡ runCall search m n nonzeros (now (list .entry)) budget ⌝ }
+{
+    let listed = list_verdict(m, n, nonzeros, list);
+    match listed {
+        Verdict::Accepted => run_listed(search, m, n, nonzeros, list, budget),
+        Verdict::Refused(word, place) => Ran {
+            answer: RunAnswer::Refused(word, place),
+            search,
+        },
+    }
+}

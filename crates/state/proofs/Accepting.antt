@@ -1,0 +1,126 @@
+-- What a state that is not refused has: markings that fit, and the tables of its list at hand.
+-- Assumes nothing.
+use mathlib.Core.Bool.{Bool, true, false, not}
+use mathlib.Core.List.{List, [], _∷_}
+use mathlib.Core.Option.{Option, some, none}
+use mathlib.Core.Path.{_≡_, refl, sym, _∙_, ap}
+use Prim.Native.Nat.{ℕ, suc, _+_, _*_, _≤_, _<_}
+use native.Mathlib.Omega.{arith}
+use lib.Dec.{eqb, ltb, leb}
+use lib.ListN.{length, getD}
+use borrow.Author.Tests.{leb-true, eqb-true}
+use Rattle.counting.specs.Tests.{_and_, _or_}
+use Rattle.counting.proofs.Joined.{no-way, clash, and-left, and-right}
+use Rattle.model.specs.declared.Verdict.{Verdict}
+use Rattle.model.specs.declared.Verdict.the-variants.{Accepted, Refused}
+use Rattle.model.specs.declared.Search.{Search}
+use Rattle.model.specs.Limits.{lineLimit, capLimit, triesLimit, budgetLimit}
+use Rattle.model.specs.Pattern.{Pattern, patternOf, lineTotal}
+use Rattle.model.specs.Walk.{Record, Rules, rulesOf, cuts, isEmpty}
+use Rattle.model.specs.State.{marksIn, bestIn, recordOf, searchOf, areMarks, startsWithZero, beginningsValid, trailFine, bestFine, stateFine}
+use Rattle.model.specs.Calls.{listVerdict}
+use Rattle.state.specs.Holding.{normalOf}
+use Rattle.matching.specs.Starts.{rowStart}
+use Rattle.bound.specs.Evaluated.{Placed}
+use Rattle.bound.proofs.Evaluations.{accepted-listed}
+use Rattle.model.proofs.Theorems.Accepted.{list-accepted}
+use Rattle.state.specs.Ready.{Ready, Fits}
+use Rattle.state.proofs.Normal.{normal-is}
+use Rattle.state.proofs.Held.{few-lines}
+use Rattle.state.proofs.StateLaws.{marks-length}
+
+empty-short : (R : Rules) (τ : List ℕ) → isEmpty τ ≡ true → length τ ≤ R .k
+unfolding isEmpty
+empty-short R [] h = omega arith
+empty-short R (x ∷ τ) h = clash h refl
+
+some-same : {a b : List ℕ} → _≡_ {A = Option (List ℕ)} (some a) (some b) → a ≡ b
+some-same e = cc
+
+absurd-none : {A : Type 0} {a : List ℕ} → _≡_ {A = Option (List ℕ)} none (some a) → A
+absurd-none e = let z : _≡_ {A = ℕ} 0 1 = cc in no-way (omega arith)
+
+-- a trail that is not refused has at most k marks
+trail-short : (R : Rules) (complete : Bool) (τ : List ℕ) → trailFine R complete τ ≡ true → length τ ≤ R .k
+unfolding trailFine
+trail-short R true τ h = empty-short R τ h
+trail-short R false τ h =
+    leb-true
+    (length τ)
+    (R .k)
+    (and-right
+    (not (isEmpty τ))
+    (leb (length τ) (R .k))
+    (and-left _ (areMarks τ) (and-left _ (startsWithZero τ) (and-left _ (beginningsValid R τ) h))))
+
+-- a best marking that is not refused has k
+best-short : (R : Rules) (o : Option (List ℕ)) (count : ℕ) (complete : Bool) → bestFine R o count complete ≡ true → (τ : List ℕ) → o ≡ some τ → length τ ≤ R .k
+unfolding bestFine
+best-short R none count complete h τ e = absurd-none e
+best-short R (some ρ) count complete h τ e =
+    let long = eqb-true (length ρ) (R .k) (and-left _ (areMarks ρ) (and-left _ (R .valid ρ) (and-left _ (eqb (cuts ρ) count) h))) in
+    omega (arith, ap length (some-same e))
+
+-- so the markings of a state that is not refused fit
+pub fine-fits :
+    (R : Rules) (m n nonzeros : ℕ) (r : Record) → stateFine R m n nonzeros r ≡ true → Fits (R .k) r
+unfolding stateFine
+fine-fits R m n nonzeros r h =
+    record {
+      trail-fits = trail-short R (r .complete) (r .trail) (and-right _ (trailFine R (r .complete) (r .trail)) (and-left _ (bestFine R (r .best) (r .bestCount) (r .complete)) h));
+      best-fits = best-short R (r .best) (r .bestCount) (r .complete) (and-right _ (bestFine R (r .best) (r .bestCount) (r .complete)) h);
+    }
+
+found-best : (s : Search) → s .found ≡ true → bestIn (s .found) (s .best) ≡ some (marksIn (s .best))
+unfolding bestIn
+found-best s h = ap (λ (b : Bool). bestIn b (s .best)) h
+
+-- so its trail and its best marking fit their arrays
+module _ (s : Search) (k : ℕ) (small : k ≤ 240) (f : Fits k (recordOf s)) where
+  pub trail-fits : s .trail .len ≤ 240
+  unfolding recordOf
+  trail-fits = omega (arith, f .trail-fits, marks-length (s .trail))
+
+  pub best-fits : s .found ≡ true → s .best .len ≤ 240
+  unfolding recordOf
+  best-fits found = omega (arith, f .best-fits (marksIn (s .best)) (found-best s found), marks-length (s .best))
+
+  -- and its cleared search is the search of its record
+  pub fine-normal : normalOf s ≡ searchOf (recordOf s)
+  fine-normal = normal-is s trail-fits best-fits
+
+-- the tables of an accepted list are at hand
+accepted-few : (m n nonzeros : ℕ) (list : List ℕ) → listVerdict m n nonzeros list ≡ Accepted → lineTotal (patternOf m n nonzeros list) ≤ 2 * lineLimit
+unfolding patternOf
+accepted-few m n nonzeros list h =
+    few-lines (patternOf m n nonzeros list) (list-accepted m n nonzeros list h .rows-to) (list-accepted m n nonzeros list h .columns-to)
+
+pub accepted-ready :
+    (m n nonzeros : ℕ) (list places starts : List ℕ) (k : ℕ) →
+    listVerdict m n nonzeros list ≡ Accepted →
+    Placed (patternOf m n nonzeros list) places →
+    ((m n i : ℕ) → i ≤ 256 → getD starts i 0 ≡ rowStart (patternOf m n nonzeros list) i) →
+    k ≡ lineTotal (patternOf m n nonzeros list) →
+    Ready m n nonzeros list places starts k
+accepted-ready m n nonzeros list places starts k h placed started total =
+    record {
+      listed = accepted-listed m n nonzeros list starts h started;
+      placed = placed;
+      total = total;
+      few = omega (arith, total, accepted-few m n nonzeros list h);
+    }
+
+pub rules-total : (P : Pattern) (cap : ℕ) → rulesOf P cap .k ≡ lineTotal P
+unfolding rulesOf
+rules-total P cap = refl
+
+pub fits-at : (j k : ℕ) (r : Record) → j ≡ k → Fits j r → Fits k r
+fits-at j k r e f = record { trail-fits = omega (arith, e, f .trail-fits); best-fits = λ τ b. omega (arith, e, f .best-fits τ b) }
+
+-- a state that is not refused, on tables at hand: its markings fit, and its cleared search is that of its record
+pub ready-fits :
+    (m n nonzeros : ℕ) (list places starts : List ℕ) (k : ℕ) (s : Search) → Ready m n nonzeros list places starts k →
+    stateFine (rulesOf (patternOf m n nonzeros list) (s .cap)) m n nonzeros (recordOf s) ≡ true → Fits k (recordOf s)
+ready-fits m n nonzeros list places starts k s ready fine =
+    let P = patternOf m n nonzeros list in
+    fits-at _ k (recordOf s) (rules-total P (s .cap) ∙ sym (ready .total)) (fine-fits (rulesOf P (s .cap)) m n nonzeros (recordOf s) fine)

@@ -1,0 +1,31 @@
+-- The number of marks cut, one mark more.
+-- Assumes nothing.
+use mathlib.Core.Bool.{Bool, true, false}
+use mathlib.Core.List.{List, [], _∷_}
+use mathlib.Core.Path.{_≡_, refl, sym, _∙_, ap}
+use Prim.Native.Nat.{ℕ, zero, suc, _+_, _≤_, _<_}
+use native.Mathlib.Numerals.{add-one}
+use native.Mathlib.Omega.{arith}
+use lib.Dec.{eqb, ltb}
+use borrow.Author.Tests.{eq-eqb, ne-eqb, lt-ltb}
+use Rattle.counting.proofs.Joined.{no-way, bit-true, bit-false, pick-true}
+use Rattle.model.specs.Walk.{Record, cuts, isEmpty, advance, tried, improved, outcome}
+use Rattle.model.specs.State.{stack, arrayOf, trailOf, isFound, bestOr, searchOf}
+use Rattle.marking.specs.Stack.{stackOf, cell, appended, advanced}
+use Rattle.state.specs.Legal.{cutsIn}
+
+-- no cuts before the first mark
+pub cuts-none : (marks : List ℕ) → cutsIn marks 0 ≡ 0
+unfolding cutsIn cuts stack
+cuts-none marks = refl
+
+-- one mark more, cut or not
+pub cuts-more : (marks : List ℕ) (i : ℕ) → cell marks i ≡ 2 → cutsIn marks (i + 1) ≡ cutsIn marks i + 1
+unfolding cutsIn cuts stack
+cuts-more marks i h =
+    ap (cutsIn marks) (add-one i) ∙ omega (arith, bit-true (eqb (cell marks i) 2) (eq-eqb (cell marks i) 2 h))
+
+pub cuts-same : (marks : List ℕ) (i : ℕ) → (cell marks i ≡ 2 → ⊥) → cutsIn marks (i + 1) ≡ cutsIn marks i
+unfolding cutsIn cuts stack
+cuts-same marks i h =
+    ap (cutsIn marks) (add-one i) ∙ omega (arith, bit-false (eqb (cell marks i) 2) (ne-eqb (cell marks i) 2 h))

@@ -1,0 +1,11 @@
+pub mod Cuts
+pub mod Held
+pub mod Cleared
+pub mod Totals
+pub mod Legals
+pub mod States
+pub mod StateLaws
+pub mod Validities
+pub mod Normal
+pub mod Accepting
+pub mod Checks

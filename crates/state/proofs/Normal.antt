@@ -1,0 +1,51 @@
+-- A cleared search is the search of its record, where its markings fit their arrays.
+-- Assumes nothing.
+use mathlib.Core.Bool.{Bool, true, false}
+use mathlib.Core.List.{List, []}
+use mathlib.Core.Option.{Option, some, none}
+use mathlib.Core.Path.{_≡_, refl, sym, _∙_, ap}
+use Prim.Native.Nat.{ℕ, _≤_}
+use borrow.Author.Tests.{le-ltb}
+use Rattle.counting.specs.Tests.{pick}
+use Rattle.counting.proofs.Joined.{clash, pick-true, pick-false}
+use Rattle.model.specs.declared.Trail.{Trail}
+use Rattle.model.specs.declared.Search.{Search}
+use Rattle.model.specs.State.{marksIn, trailOf, bestIn, isFound, bestOr, recordOf, searchOf}
+use Rattle.state.specs.Holding.{clearedTo, bestTo, normalOf}
+
+-- a trail that fits its array
+pub cleared-is : (trail : Trail) → trail .len ≤ 240 → clearedTo trail ≡ trailOf (marksIn trail)
+unfolding clearedTo
+cleared-is trail h = pick-false (trailOf []) (trailOf (marksIn trail)) (le-ltb 240 (trail .len) h)
+
+found-is : (found : Bool) (best : Trail) → isFound (bestIn found best) ≡ found
+unfolding isFound bestIn
+found-is true best = refl
+found-is false best = refl
+
+-- a best marking that fits its array, or none
+best-is :
+    (found : Bool) (best : Trail) → (found ≡ true → best .len ≤ 240) →
+    bestTo found best ≡ trailOf (bestOr (bestIn found best))
+unfolding bestTo bestIn bestOr
+best-is true best h = pick-true (clearedTo best) (trailOf []) refl ∙ cleared-is best (h refl)
+best-is false best h = pick-false (clearedTo best) (trailOf []) refl
+
+-- a search whose markings fit their arrays
+pub normal-is :
+    (s : Search) → s .trail .len ≤ 240 → (s .found ≡ true → s .best .len ≤ 240) →
+    normalOf s ≡ searchOf (recordOf s)
+unfolding normalOf searchOf recordOf
+normal-is s short best =
+    λ i. record {
+      m = s .m;
+      n = s .n;
+      nonzeros = s .nonzeros;
+      cap = s .cap;
+      tries = s .tries;
+      «best_count» = s .«best_count»;
+      found = sym (found-is (s .found) (s .best)) i;
+      best = best-is (s .found) (s .best) best i;
+      complete = s .complete;
+      trail = cleared-is (s .trail) short i;
+    }

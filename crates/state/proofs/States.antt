@@ -1,0 +1,31 @@
+-- Laws of the state check on the struct of a search.
+-- Assumes nothing.
+use mathlib.Core.Bool.{Bool, true, false, not}
+use mathlib.Core.List.{List, [], _∷_}
+use mathlib.Core.Option.{Option, some, none}
+use mathlib.Core.Path.{_≡_, refl, sym, _∙_, ap}
+use Prim.Native.Nat.{ℕ, zero, suc, _+_, _*_, _≤_, _<_}
+use native.Mathlib.Omega.{arith}
+use lib.Dec.{eqb, ltb, leb}
+use lib.ListN.{length, getD}
+use borrow.Author.Tests.{eq-eqb, le-leb}
+use Rattle.counting.specs.Tests.{_and_}
+use Rattle.counting.proofs.Joined.{and-intro, and-passed}
+use Rattle.model.specs.declared.Search.{Search}
+use Rattle.model.specs.Limits.{capLimit, triesLimit}
+use Rattle.state.specs.StateBy.{trailBy, fullBy, bestBy, numbersBy}
+
+-- the last of the tests of numbers
+pub numbers-last :
+    (s : Search) (m n nonzeros : ℕ) → s .m ≡ m → s .n ≡ n → s .nonzeros ≡ nonzeros → s .cap ≤ capLimit →
+    nonzeros ≤ 2 * s .cap → leb (s .tries) triesLimit ≡ numbersBy s m n nonzeros
+unfolding numbersBy
+numbers-last s m n nonzeros a b c d e =
+    sym
+    (and-passed
+    (leb (s .tries) triesLimit)
+    (and-intro
+    (and-intro
+    (and-intro (and-intro (eq-eqb (s .m) m a) (eq-eqb (s .n) n b)) (eq-eqb (s .nonzeros) nonzeros c))
+    (le-leb (s .cap) capLimit d))
+    (le-leb nonzeros (2 * s .cap) e)))

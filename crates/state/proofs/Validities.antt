@@ -1,0 +1,166 @@
+-- Which markings of a search are valid: a trail's proper beginnings by its longest, and a trail by its cleared marks.
+-- Assumes nothing.
+use mathlib.Core.Bool.{Bool, true, false}
+use mathlib.Core.List.{List, [], _∷_}
+use mathlib.Core.Path.{_≡_, refl, sym, _∙_, ap}
+use Prim.Native.Nat.{ℕ, zero, suc, _-_, _≤_}
+use native.Mathlib.Omega.{arith}
+use lib.ListN.{length, getD}
+use Rattle.counting.specs.Tests.{_and_}
+use Rattle.counting.proofs.Joined.{by-test, both-ways, and-intro, and-left, and-right}
+use Rattle.model.specs.declared.Trail.{Trail}
+use Rattle.model.specs.declared.Search.{Search}
+use Rattle.model.specs.Pattern.{Pattern, Inside, patternOf, lineTotal}
+use Rattle.model.specs.Marking.{marking, valid}
+use Rattle.model.specs.Walk.{Rules, rulesOf}
+use Rattle.model.specs.State.{stack, marksIn, bestIn, recordOf, arrayOf, trailOf, beginningsValid, trailFine, bestFine, stateFine}
+use Rattle.model.proofs.Walk.Sound.{Begins, whole, longer}
+use Rattle.model.proofs.Bound.Extended.{valid-begins}
+use Rattle.model.proofs.Order.Marks.{begins-extends}
+use Rattle.bound.specs.declared.Evaluation.{Evaluation}
+use Rattle.bound.specs.Evaluated.{Listed, Placed, Evaluates}
+use Rattle.state.specs.Holding.{clearedTo}
+use Rattle.state.specs.StateBy.{shorter}
+use Rattle.state.specs.StateBy.{trailBy, bestBy, numbersBy}
+use Rattle.state.specs.Ready.{Ready}
+use Rattle.state.proofs.Normal.{cleared-is}
+use Rattle.state.proofs.StateLaws.{marks-length, trail-is, best-is, state-is}
+
+-- a beginning of a valid marking is valid
+inherits : (P : Pattern) (cap : ℕ) (x : ℕ) (τ : List ℕ) → Inside P → rulesOf P cap .valid (x ∷ τ) ≡ true → rulesOf P cap .valid τ ≡ true
+unfolding rulesOf
+inherits P cap x τ i h = valid-begins P cap (marking P τ) (marking P (x ∷ τ)) i (begins-extends P (longer whole)) h
+
+-- all beginnings of a valid marking are valid
+all-valid : (P : Pattern) (cap : ℕ) (τ : List ℕ) → Inside P → rulesOf P cap .valid τ ≡ true → beginningsValid (rulesOf P cap) τ ≡ true
+unfolding beginningsValid
+all-valid P cap [] i h = refl
+all-valid P cap (x ∷ τ) i h = let v = inherits P cap x τ i h in and-intro v (all-valid P cap τ i v)
+
+-- so the longest proper beginning speaks for all
+longest-speaks :
+    (P : Pattern) (cap x : ℕ) (τ : List ℕ) → Inside P →
+    rulesOf P cap .valid τ ≡ beginningsValid (rulesOf P cap) (x ∷ τ)
+unfolding beginningsValid
+longest-speaks P cap x τ i =
+    both-ways
+    (rulesOf P cap .valid τ)
+    (rulesOf P cap .valid τ and beginningsValid (rulesOf P cap) τ)
+    (λ h. and-intro h (all-valid P cap τ i h))
+    (λ h. and-left (rulesOf P cap .valid τ) (beginningsValid (rulesOf P cap) τ) h)
+
+-- the marks of a trail and of the one without its last mark
+marks-shorter :
+    (trail : Trail) → 1 ≤ trail .len → marksIn trail ≡ getD (trail .marks) (trail .len - 1) 0 ∷ marksIn (shorter trail)
+unfolding marksIn shorter stack
+marks-shorter trail h =
+    let e : trail .len ≡ suc (trail .len - 1) = omega arith in
+    ap (stack (λ i. getD (trail .marks) i 0)) e
+
+pub trail-speaks :
+    (P : Pattern) (cap : ℕ) (trail : Trail) (v : Bool) → Inside P → 1 ≤ trail .len →
+    v ≡ valid P cap (marking P (marksIn (shorter trail))) → v ≡ beginningsValid (rulesOf P cap) (marksIn trail)
+unfolding rulesOf
+trail-speaks P cap trail v i h e =
+    e
+    ∙ longest-speaks P cap (getD (trail .marks) (trail .len - 1) 0) (marksIn (shorter trail)) i
+    ∙ ap (beginningsValid (rulesOf P cap)) (sym (marks-shorter trail h))
+
+-- the evaluation of a cleared trail
+pub valid-cleared :
+    (m n nonzeros : ℕ) (list places starts : List ℕ) (cap : ℕ) (trail kept : Trail) (j : Evaluation) →
+    kept ≡ clearedTo trail →
+    (Listed m n nonzeros list starts → Placed (patternOf m n nonzeros list) places →
+    (τ : List ℕ) → length τ ≤ 240 → kept .marks ≡ arrayOf τ → kept .len ≡ length τ →
+    Evaluates (patternOf m n nonzeros list) cap (marking (patternOf m n nonzeros list) τ) j) →
+    Listed m n nonzeros list starts → Placed (patternOf m n nonzeros list) places → trail .len ≤ 240 →
+    j .valid ≡ valid (patternOf m n nonzeros list) cap (marking (patternOf m n nonzeros list) (marksIn trail))
+unfolding trailOf
+valid-cleared m n nonzeros list places starts cap trail kept j e judged listed placed b =
+    let d : kept ≡ trailOf (marksIn trail) = e ∙ cleared-is trail b in
+    judged
+    listed
+    placed
+    (marksIn trail)
+    (omega (arith, marks-length trail))
+    (ap (λ (t : Trail). t .marks) d)
+    (ap (λ (t : Trail). t .len) d)
+    .valid-is
+
+rules-k : (P : Pattern) (cap : ℕ) → rulesOf P cap .k ≡ lineTotal P
+unfolding rulesOf
+rules-k P cap = refl
+
+rules-valid : (P : Pattern) (cap : ℕ) (τ : List ℕ) → valid P cap (marking P τ) ≡ rulesOf P cap .valid τ
+unfolding rulesOf
+rules-valid P cap τ = refl
+
+shorter-len : (trail : Trail) → shorter trail .len ≡ trail .len - 1
+unfolding shorter
+shorter-len trail = refl
+
+-- what the code has of a state check
+pub record Checked (m n nonzeros rows columns size : ℕ) (list places starts : List ℕ) (k : ℕ) (s : Search) (beginning : Trail) (begins full numbers trail best : Bool) : Type 0 where
+  pub short : beginning ≡ shorter (s .trail)
+  pub begins-is :
+      Listed rows columns size list starts → Placed (patternOf rows columns size list) places → beginning .len ≤ 240 →
+      begins ≡ valid (patternOf rows columns size list) (s .cap) (marking (patternOf rows columns size list) (marksIn beginning))
+  pub full-is :
+      Listed rows columns size list starts → Placed (patternOf rows columns size list) places → s .best .len ≤ 240 →
+      full ≡ valid (patternOf rows columns size list) (s .cap) (marking (patternOf rows columns size list) (marksIn (s .best)))
+  pub numbers-are : numbers ≡ numbersBy s m n nonzeros
+  pub trail-test : trail ≡ trailBy (s .complete) (s .trail) k begins
+  pub best-test : best ≡ bestBy s k full
+
+-- it is the state check of document 01
+pub checked-is :
+    (m n nonzeros rows columns size : ℕ) (list places starts : List ℕ) (k : ℕ) (s : Search) (beginning : Trail) (begins full numbers trail best : Bool) →
+    Checked m n nonzeros rows columns size list places starts k s beginning begins full numbers trail best →
+    Ready rows columns size list places starts k →
+    numbers and trail and best ≡ stateFine (rulesOf (patternOf rows columns size list) (s .cap)) m n nonzeros (recordOf s)
+checked-is m n nonzeros rows columns size list places starts k s beginning begins full numbers trail best c ready =
+    ap (λ (x : Bool). x and trail and best) (c .numbers-are)
+    ∙ state-is (rulesOf P (s .cap)) m n nonzeros s trail best trail-fine best-fine
+  where
+    P : Pattern
+    P = patternOf rows columns size list
+
+    k-is : rulesOf P (s .cap) .k ≡ k
+    k-is = rules-k P (s .cap) ∙ sym (ready .total)
+
+    few : rulesOf P (s .cap) .k ≤ 240
+    few = omega (arith, k-is, ready .few)
+
+    shorter-length : beginning .len ≡ s .trail .len - 1
+    shorter-length = ap (λ (t : Trail). t .len) (c .short) ∙ shorter-len (s .trail)
+
+    trail-fine : trail ≡ trailFine (rulesOf P (s .cap)) (s .complete) (marksIn (s .trail))
+    trail-fine =
+        c .trail-test
+        ∙ ap (λ (j : ℕ). trailBy (s .complete) (s .trail) j begins) (sym k-is)
+        ∙ trail-is
+        (rulesOf P (s .cap))
+        (s .complete)
+        (s .trail)
+        begins
+        few
+        (λ some short. trail-speaks
+        P
+        (s .cap)
+        (s .trail)
+        begins
+        (ready .listed .inside)
+        some
+        (c .begins-is (ready .listed) (ready .placed) (omega (arith, shorter-length, few))
+        ∙ ap (λ (t : Trail). valid P (s .cap) (marking P (marksIn t))) (c .short)))
+
+    best-fine : best ≡ bestFine (rulesOf P (s .cap)) (bestIn (s .found) (s .best)) (s .«best_count») (s .complete)
+    best-fine =
+        c .best-test
+        ∙ ap (λ (j : ℕ). bestBy s j full) (sym k-is)
+        ∙ best-is
+        (rulesOf P (s .cap))
+        s
+        full
+        few
+        (λ found long. c .full-is (ready .listed) (ready .placed) (omega (arith, long, few)) ∙ rules-valid P (s .cap) (marksIn (s .best)))

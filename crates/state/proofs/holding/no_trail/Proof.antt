@@ -1,0 +1,20 @@
+-- `state::no_trail` meets its contract.
+-- Assumes nothing.
+use mathlib.Core.List.{List}
+use mathlib.Core.Path.{ap}
+use Prim.Native.Nat.{ℕ}
+use Rattle.model.specs.declared.Trail.{Trail}
+use Rattle.model.specs.State.{trailOf}
+use borrow.Author.Needs.{needs}
+use Rattle.state.proofs.holding.no_trail.Statement.{statement}
+use Rattle.state.proofs.holding.no_trail.Tie as tie
+
+no-marks-requires : tie.Need-no-marks-requires
+no-marks-requires c κs = search needs
+
+returns : tie.Need-returns
+unfolding trailOf
+returns c = cc
+
+pub no-trail-spec : {M : Type 1} → statement M
+no-trail-spec = tie.close (tie.spec no-marks-requires returns)

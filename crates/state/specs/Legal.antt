@@ -1,0 +1,26 @@
+-- The marks of an array before an index: legal ones, and the number cut.
+-- Assumes nothing.
+use mathlib.Core.Bool.{Bool, not}
+use mathlib.Core.List.{List}
+use Prim.Native.Nat.{ℕ}
+use lib.Dec.{eqb}
+use Rattle.counting.specs.Tests.{_and_}
+use Rattle.model.specs.Walk.{cuts}
+use Rattle.model.specs.State.{stack, areMarks, startsWithZero}
+use Rattle.marking.specs.Stack.{cell}
+
+-- each is 0, 1 or cut
+unfoldable pub marksLegal : List ℕ → ℕ → Bool
+marksLegal marks end = areMarks (stack (cell marks) end)
+
+-- mark 1 stands where no earlier mark is 0 or 1
+unfoldable pub oneDenied : ℕ → Bool → Bool
+oneDenied mark part = not part and eqb mark 1
+
+-- the first other than cut is 0
+unfoldable pub zeroFirst : List ℕ → ℕ → Bool
+zeroFirst marks end = startsWithZero (stack (cell marks) end)
+
+-- the number of marks cut before an index
+unfoldable pub cutsIn : List ℕ → ℕ → ℕ
+cutsIn marks end = cuts (stack (cell marks) end)

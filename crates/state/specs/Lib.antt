@@ -1,0 +1,4 @@
+pub mod Holding
+pub mod Legal
+pub mod StateBy
+pub mod Ready

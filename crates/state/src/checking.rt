@@ -1,0 +1,83 @@
+// The state check of refusal 14.
+use crate::fine::best_fine;
+use crate::fine::numbers_fine;
+use crate::fine::trail_fine;
+use crate::holding::cleared;
+use bound::evaluating::evaluate;
+use model::Search;
+use model::Trail;
+use pattern::reading::wide16;
+use weighing::cells::both_of;
+ghost use mathlib.Core.Path.{_≡_};
+ghost use Prim.Native.Nat.{_≤_};
+ghost use Rattle.model.specs.Pattern.{patternOf};
+ghost use Rattle.model.specs.Walk.{rulesOf};
+ghost use Rattle.model.specs.Marking.{marking, valid};
+ghost use Rattle.model.specs.State.{marksIn, recordOf, stateFine};
+ghost use Rattle.bound.specs.Evaluated.{Listed, Placed};
+ghost use Rattle.state.specs.Ready.{Ready};
+ghost use Rattle.state.specs.StateBy.{shorter};
+
+// The trail without its last mark: its longest proper beginning.
+pub fn shortened(trail: Trail) -> Trail
+    ensures { λ r. ⌜ r ≡ shorter trail ⌝ }
+{
+    let marks = trail.marks;
+    let len = trail.len;
+    if 0 < len {
+        return Trail {
+            marks,
+            len: len - 1,
+        };
+    }
+    Trail { marks, len }
+}
+
+// The marking that a trail holds is valid.
+fn valid_of(
+    trail: Trail,
+    m: u8,
+    n: u8,
+    nonzeros: u16,
+    list: &[u8],
+    cap: u64,
+    places: &[u16; 512],
+    starts: &[u16; 257],
+) -> bool
+    ensures { λ v. ⌜ (Listed m n nonzeros (now (list .entry)) (now (starts .entry)) →
+        Placed (patternOf m n nonzeros (now (list .entry))) (now (places .entry)) → trail .len ≤ 240 →
+        v ≡ valid (patternOf m n nonzeros (now (list .entry))) cap (marking (patternOf m n nonzeros (now (list .entry))) (marksIn trail))) ⌝ }
+{
+    let kept = cleared(trail);
+    let marks = kept.marks;
+    let len = kept.len;
+    let judged = evaluate(m, n, nonzeros, list, cap, places, starts, &marks, len);
+    judged.valid
+}
+
+// The state check of refusal 14, with the tables of an accepted list.
+pub fn state_fine(
+    search: Search,
+    m: u64,
+    n: u64,
+    nonzeros: u64,
+    rows: u8,
+    columns: u8,
+    size: u16,
+    list: &[u8],
+    places: &[u16; 512],
+    starts: &[u16; 257],
+    k: u16,
+) -> bool
+    ensures { λ v. ⌜ (Ready rows columns size (now (list .entry)) (now (places .entry)) (now (starts .entry)) k →
+        v ≡ stateFine (rulesOf (patternOf rows columns size (now (list .entry))) (search .cap)) m n nonzeros (recordOf search)) ⌝ }
+{
+    let cap = search.cap;
+    let beginning = shortened(search.trail);
+    let begins = valid_of(beginning, rows, columns, size, list, cap, places, starts);
+    let full = valid_of(search.best, rows, columns, size, list, cap, places, starts);
+    let numbers = numbers_fine(search, m, n, nonzeros);
+    let trail = trail_fine(search.trail, search.complete, wide16(k), begins);
+    let best = best_fine(search, k, full);
+    both_of(both_of(numbers, trail), best)
+}

@@ -1,0 +1,145 @@
+// The record of a search in its struct: fresh, and with 0 in every mark past a marking's length.
+use model::Search;
+use model::Trail;
+use pattern::reading::long16;
+ghost use mathlib.Core.Path.{_≡_};
+ghost use mathlib.Core.List.{[], _∷_};
+ghost use Prim.Native.Nat.{suc};
+ghost use Rattle.model.specs.Walk.{fresh};
+ghost use Rattle.model.specs.State.{arrayOf, trailOf, searchOf};
+ghost use Rattle.model.specs.Calls.{noRecord};
+ghost use Rattle.state.specs.Holding.{clearedTo, bestTo, normalOf};
+
+// No marks.
+pub fn no_marks() -> [u8; 240]
+    ensures { λ r. ⌜ r ≡ arrayOf [] ⌝ }
+{
+    [0u8; 240]
+}
+
+// No marking.
+pub fn no_trail() -> Trail
+    ensures { λ r. ⌜ r ≡ trailOf [] ⌝ }
+{
+    let marks = no_marks();
+    Trail { marks, len: 0 }
+}
+
+// A trail with 0 in every mark past its length; one that does not fit its array is left out.
+pub fn cleared(trail: Trail) -> Trail
+    ensures { λ r. ⌜ r ≡ clearedTo trail ⌝ }
+{
+    let marks = trail.marks;
+    let len = trail.len;
+    if 240 < len {
+        return no_trail();
+    }
+    let mut kept = no_marks();
+    let mut i = 0;
+    while i < len {
+        kept[i] = marks[i];
+        i += 1;
+    }
+    Trail { marks: kept, len }
+}
+
+// A search with 0 in every mark past a marking's length, and in every mark where there is no best marking.
+pub fn normal(mut search: Search) -> Search
+    ensures { λ r. ⌜ r ≡ normalOf search ⌝ }
+{
+    let trail = cleared(search.trail);
+    let best = best_or_none(search.found, search.best);
+    search.trail = trail;
+    search.best = best;
+    search
+}
+
+// The best marking, cleared, where there is one.
+pub fn best_or_none(found: bool, best: Trail) -> Trail
+    ensures { λ r. ⌜ r ≡ bestTo found best ⌝ }
+{
+    if found {
+        return cleared(best);
+    }
+    no_trail()
+}
+
+// A search of a pattern without nonzeros, which is complete.
+pub fn blank(m: u64, n: u64, nonzeros: u64, cap: u64) -> Search
+    ensures { λ r. ⌜ r ≡ searchOf (fresh m n nonzeros cap 0) ⌝ }
+{
+    let best = no_trail();
+    let trail = no_trail();
+    Search {
+        m,
+        n,
+        nonzeros,
+        cap,
+        tries: 0,
+        best_count: 0,
+        found: true,
+        best,
+        complete: true,
+        trail,
+    }
+}
+
+// The trail of one mark, 0.
+pub fn first_trail() -> Trail
+    ensures { λ r. ⌜ r ≡ trailOf (0 ∷ []) ⌝ }
+{
+    let mut marks = no_marks();
+    marks[0] = 0;
+    Trail { marks, len: 1 }
+}
+
+// A fresh search of k + 1 lines with nonzeros.
+pub fn begun(m: u64, n: u64, nonzeros: u64, cap: u64, k: u16) -> Search
+    ensures { λ r. ⌜ r ≡ searchOf (fresh m n nonzeros cap (suc k)) ⌝ }
+{
+    let best = no_trail();
+    let trail = first_trail();
+    let count = long16(k) + 2;
+    Search {
+        m,
+        n,
+        nonzeros,
+        cap,
+        tries: 0,
+        best_count: count,
+        found: false,
+        best,
+        complete: false,
+        trail,
+    }
+}
+
+// A fresh search of k lines with nonzeros.
+pub fn fresh_search(m: u64, n: u64, nonzeros: u64, cap: u64, k: u16) -> Search
+    ensures { λ r. ⌜ r ≡ searchOf (fresh m n nonzeros cap k) ⌝ }
+{
+    if k == 0 {
+        return blank(m, n, nonzeros, cap);
+    }
+    begun(m, n, nonzeros, cap, k - 1)
+}
+
+// The search of a refused opening, with nothing in it.
+pub fn no_search() -> Search
+    ensures { λ r. ⌜ r ≡ searchOf noRecord ⌝ }
+{
+    let best = no_trail();
+    let trail = no_trail();
+    Search {
+        m: 0,
+        n: 0,
+        nonzeros: 0,
+        cap: 0,
+        tries: 0,
+        best_count: 0,
+        found: false,
+        best,
+        complete: false,
+        trail,
+    }
+}
