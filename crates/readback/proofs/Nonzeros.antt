@@ -1,0 +1,68 @@
+-- The table of a split's cells gives its nonzeros in order, with their parts.
+-- Assumes nothing.
+use mathlib.Core.Bool.{Bool, true, false}
+use mathlib.Core.List.{List}
+use mathlib.Core.Path.{_≡_, refl, sym, _∙_, ap}
+use Prim.Native.Nat.{ℕ, _+_, _-_, _*_, _/_, _%_, _≤_, _<_}
+use native.Mathlib.Nat.{mul-add-div, mul-add-mod-self-left, div-eq-of-lt, mod-eq-of-lt}
+use native.Mathlib.Omega.{arith}
+use lib.ListN.{length, getD}
+use Rattle.counting.specs.Sums.{sum, count}
+use Rattle.model.specs.Pattern.{rowIn, columnIn}
+use Rattle.texts.specs.Entries.{isGiven}
+use Rattle.readback.proofs.Rising.{rising, count-before, count-whole}
+use Rattle.readback.proofs.Table.{tableOf, given-mark, table-given, table-mark}
+use Rattle.readback.proofs.Given.{Gives}
+use Rattle.readback.proofs.Accepted.{cellIn, Fine}
+use Rattle.readback.proofs.Entries.{markIn}
+
+-- row and column of a cell
+cell-row : (i j : ℕ) → j < 120 → (120 * i + j) / 120 ≡ i
+cell-row i j l = mul-add-div {m = 120} (omega arith) i j ∙ omega (arith, div-eq-of-lt l)
+
+cell-column : (i j : ℕ) → j < 120 → (120 * i + j) % 120 ≡ j
+cell-column i j l = mul-add-mod-self-left 120 i j ∙ mod-eq-of-lt l
+
+module _ {m n nonzeros : ℕ} {list parts : List ℕ} (split : Fine m n nonzeros list parts) where
+  abbrev table : List ℕ
+  table = tableOf (cellIn list) (markIn parts) nonzeros
+
+  cell-inside : (t : ℕ) → t < nonzeros → cellIn list t < 120 * m
+  cell-inside t l = omega (arith, split .columns, split .row-in t l, split .column-in t l)
+
+  mark-back : (t : ℕ) → t < nonzeros → getD table (cellIn list t) 0 ≡ getD parts t 0 + 1
+  mark-back t l =
+      table-mark (cellIn list) (markIn parts) (split .in-order) nonzeros t (omega arith) l (omega (arith, cell-inside t l, split .rows))
+
+  given : (t : ℕ) → t < nonzeros → isGiven table (cellIn list t) ≡ true
+  given t l = given-mark table (cellIn list t) (λ e. omega (arith, mark-back t l))
+
+  -- the nonzero of a cell that is given: its number is how many are given before it
+  nonzero-of : (p : ℕ) → isGiven table p ≡ true → (count (isGiven table) p < nonzeros) × (p ≡ cellIn list (count (isGiven table) p))
+  nonzero-of p e =
+      let w = table-given (cellIn list) (markIn parts) nonzeros p e in
+      let c = ap (λ k. count (isGiven table) k) (w .2)
+      ∙ count-before (isGiven table) (split .in-order) (table-given (cellIn list) (markIn parts) nonzeros) given (w .0) (w .1) in
+      (omega (arith, w .1), w .2 ∙ sym (ap (cellIn list) c))
+
+  -- as many are given as there are
+  pub all-given : count (isGiven table) (120 * m) ≡ nonzeros
+  all-given = count-whole (isGiven table) (split .in-order) (table-given (cellIn list) (markIn parts) nonzeros) given (120 * m) cell-inside
+
+  pub gives-split : Gives table (120 * m) list parts
+  unfolding rowIn columnIn
+  gives-split =
+      record {
+        row =
+            λ p b e. let w = nonzero-of p e in
+            let t = count (isGiven table) p in
+            sym (ap (λ k. k / 120) (w .1) ∙ cell-row (rowIn list t) (columnIn list t) (omega (arith, split .column-in t (w .0), split .columns)));
+        column =
+            λ p b e. let w = nonzero-of p e in
+            let t = count (isGiven table) p in
+            sym (ap (λ k. k % 120) (w .1) ∙ cell-column (rowIn list t) (columnIn list t) (omega (arith, split .column-in t (w .0), split .columns)));
+        part =
+            λ p b e. let w = nonzero-of p e in
+            let t = count (isGiven table) p in
+            omega (arith, ap (λ k. getD table k 0) (w .1), mark-back t (w .0));
+      }
