@@ -2,9 +2,9 @@
 -- Assumes nothing.
 use mathlib.Core.Bool.{Bool, true, false, not}
 use mathlib.Core.List.{List}
-use mathlib.Core.Path.{_≡_, refl, sym, _∙_, ap}
+use mathlib.Core.Path.{_≡_, refl, _∙_, ap}
 use mathlib.Core.Logic.{⊎-elim}
-use Prim.Native.Nat.{ℕ, zero, suc, _+_, _-_, _*_, _≤_, _<_}
+use Prim.Native.Nat.{ℕ, zero, suc, _+_, _*_, _≤_, _<_}
 use native.Mathlib.Nat.{eq-or-lt-of-le, le-of-suc-le-suc}
 use native.Mathlib.Omega.{arith}
 use lib.Dec.{ltb, leb, eqb}
@@ -15,13 +15,14 @@ use Rattle.counting.proofs.Joined.{no-way, and-left, and-right, or-cases, or-fa
 use Rattle.model.specs.declared.Word.{Word}
 use Rattle.model.specs.declared.Word.the-variants.{OffMatrix, BadPart, ShortBuffer, Order}
 use Rattle.model.specs.declared.Verdict.{Verdict}
-use Rattle.model.specs.declared.Verdict.the-variants.{Accepted, Refused}
-use Rattle.model.specs.Refusal.{refuse, _then_}
+use Rattle.model.specs.declared.Verdict.the-variants.{Accepted}
+use Rattle.model.specs.Refusal.{refuse}
 use Rattle.model.specs.Pattern.{rowIn, columnIn}
 use Rattle.model.specs.Calls.{sizesVerdict, rises, entryVerdict}
 use Rattle.pattern.specs.Checks.{eachVerdict}
 use Rattle.pattern.specs.Measures.{partVerdict}
 use Rattle.pattern.proofs.Verdicts.{then-first, rows-small, columns-small, nonzeros-small}
+use Rattle.texts.proofs.Answers.{then-second}
 use Rattle.writing.specs.Writing.{nonzeroVerdict, writeVerdict}
 use Rattle.readback.proofs.Rising.{Rising}
 
@@ -48,19 +49,13 @@ unfolding refuse
 refuse-fails true word place h = let z : _≡_ {A = ℕ} 0 1 = cc in no-way (omega arith)
 refuse-fails false word place h = refl
 
--- the second of two checks that refuse nothing refuses nothing
-pub then-last : (u v : Verdict) → (u then v) ≡ Accepted → v ≡ Accepted
-unfolding _then_
-then-last Accepted v h = h
-then-last (Refused word place) v h = let z : _≡_ {A = ℕ} 0 1 = cc in no-way (omega arith)
-
 -- checks of numbers that refuse nothing refuse nothing of each
 pub each-accepted : (check : ℕ → Verdict) (n t : ℕ) → eachVerdict check n ≡ Accepted → t < n → check t ≡ Accepted
 unfolding eachVerdict
 each-accepted check zero t h l = no-way (omega arith)
 each-accepted check (suc n) t h l =
     ⊎-elim
-    (λ e. ap check e ∙ then-last (eachVerdict check n) (check n) h)
+    (λ e. ap check e ∙ then-second (eachVerdict check n) (check n) h)
     (λ k. each-accepted check n t (then-first (eachVerdict check n) (check n) h) k)
     (eq-or-lt-of-le (le-of-suc-le-suc l))
 
@@ -83,11 +78,11 @@ module _ (m n nonzeros : ℕ) (list parts : List ℕ) (accepted : writeVerdict m
 
   rooms : ltb (length list) (2 * nonzeros) or ltb (length parts) nonzeros ≡ false
   unfolding writeVerdict
-  rooms = refuse-fails _ ShortBuffer 0 (then-first _ _ (then-last _ _ accepted))
+  rooms = refuse-fails _ ShortBuffer 0 (then-first _ _ (then-second _ _ accepted))
 
   each : (t : ℕ) → t < nonzeros → nonzeroVerdict m n list parts t ≡ Accepted
   unfolding writeVerdict
-  each t l = each-accepted (nonzeroVerdict m n list parts) nonzeros t (then-last _ _ (then-last _ _ accepted)) l
+  each t l = each-accepted (nonzeroVerdict m n list parts) nonzeros t (then-second _ _ (then-second _ _ accepted)) l
 
   entry-accepted : (t : ℕ) → t < nonzeros → entryVerdict m n list t ≡ Accepted
   unfolding nonzeroVerdict
@@ -101,11 +96,11 @@ module _ (m n nonzeros : ℕ) (list parts : List ℕ) (accepted : writeVerdict m
   ordered : (t : ℕ) → t < nonzeros → rises list t ≡ true
   unfolding entryVerdict
   ordered t l =
-      not-false (rises list t) (refuse-fails (not (rises list t)) Order t (then-last (refuse (leb m (rowIn list t) or leb n (columnIn list t)) OffMatrix t) _ (entry-accepted t l)))
+      not-false (rises list t) (refuse-fails (not (rises list t)) Order t (then-second (refuse (leb m (rowIn list t) or leb n (columnIn list t)) OffMatrix t) _ (entry-accepted t l)))
 
   part-fails : (t : ℕ) → t < nonzeros → ltb 1 (getD parts t 0) ≡ false
   unfolding nonzeroVerdict partVerdict
-  part-fails t l = refuse-fails (ltb 1 (getD parts t 0)) BadPart t (then-last (entryVerdict m n list t) _ (each t l))
+  part-fails t l = refuse-fails (ltb 1 (getD parts t 0)) BadPart t (then-second (entryVerdict m n list t) _ (each t l))
 
   column-inside : (t : ℕ) → t < nonzeros → columnIn list t < n
   column-inside t l = leb-false n (columnIn list t) (or-fails-right (leb m (rowIn list t)) (leb n (columnIn list t)) (inside t l))

@@ -1,33 +1,29 @@
 -- The entries of a written text are read back into the table of cells.
 -- Assumes nothing.
-use mathlib.Core.Bool.{Bool, true, false, not}
+use mathlib.Core.Bool.{true, false}
 use mathlib.Core.List.{List}
 use mathlib.Core.Path.{_≡_, refl, sym, _∙_, ap}
-use Prim.Native.Nat.{ℕ, zero, suc, _+_, _-_, _*_, _^_, _≤_, _<_}
+use Prim.Native.Nat.{ℕ, zero, suc, _+_, _*_, _^_, _≤_, _<_}
 use native.Mathlib.Numerals.{add-one}
 use native.Mathlib.Omega.{arith}
-use lib.Dec.{eqb, ltb, leb}
+use lib.Dec.{eqb}
 use lib.ListN.{length, getD, set}
-use borrow.Author.Tests.{eqb-true, eqb-false, eq-eqb, ne-eqb, lt-leb, le-ltb}
-use Rattle.counting.specs.Tests.{_or_, pick, bit}
+use borrow.Author.Tests.{eqb-true, eqb-false, ne-eqb, lt-leb, le-ltb}
 use Rattle.counting.proofs.Joined.{by-test, fails, or-fails, pick-true, pick-false}
 use Rattle.model.specs.declared.Word.the-variants.{EntryForm, OffMatrix, Repeated, Count, BadPart}
-use Rattle.model.specs.declared.Verdict.{Verdict}
 use Rattle.model.specs.declared.Verdict.the-variants.{Accepted}
-use Rattle.model.specs.Refusal.{refuse, _then_}
 use Rattle.model.specs.Pattern.{rowIn, columnIn}
 use Rattle.model.specs.Calls.{outside}
 use Rattle.pattern.proofs.Verdicts.{refuse-false, then-accepted}
 use Rattle.scanning.specs.declared.Numbers.{Numbers}
-use Rattle.scanning.specs.Lines.{lineEnd, lineNext, emptyLine}
-use Rattle.scanning.specs.Words.{numbersAt}
+use Rattle.scanning.specs.Lines.{lineNext, emptyLine}
 use Rattle.texts.specs.declared.Header.{Header}
-use Rattle.texts.specs.Entries.{entryAt, cellOf, noCells, isGiven, cellMark, entryCheck, lineVerdict, noted, endVerdict, Entries, entriesFrom}
+use Rattle.texts.specs.Entries.{entryAt, cellOf, noCells, isGiven, cellMark, entryCheck, lineVerdict, noted, endVerdict, entriesFrom}
 use Rattle.texts.proofs.Cells.{ended, entries-on, entries-end, entries-one}
 use Rattle.writing.specs.Written.{sizesText, entryText, entriesText}
 use Rattle.writing.proofs.Held.{Holds}
 use Rattle.writing.proofs.Back.{lineOver, sizes-length}
-use Rattle.writing.proofs.Rows.{row-end, row-next, row-filled, row-numbers}
+use Rattle.writing.proofs.Rows.{row-next, row-filled, row-numbers}
 use Rattle.readback.proofs.Rising.{rising}
 use Rattle.readback.proofs.Table.{tableOf, table-given}
 use Rattle.readback.proofs.Accepted.{cellIn, Fine}

@@ -1,16 +1,16 @@
 -- List and parts of a table of cells: the bytes of the nonzeros that it gives, and past them the bytes that were there.
 -- Assumes nothing.
-use mathlib.Core.Bool.{Bool, true, false, not}
+use mathlib.Core.Bool.{true, false}
 use mathlib.Core.List.{List}
 use mathlib.Core.Path.{_≡_, refl, sym, _∙_, ap}
 use Prim.Native.Nat.{ℕ, zero, suc, _+_, _-_, _*_, _/_, _%_, _≤_, _<_}
 use native.Mathlib.Omega.{arith}
-use lib.Dec.{ltb, eqb}
+use lib.Dec.{eqb}
 use lib.ListN.{length, getD, set, length-set}
 use lib.Seq.{getD-set-same, getD-set-other}
-use borrow.Author.Tests.{ltb-true, ltb-false, eqb-true, eqb-false}
+use borrow.Author.Tests.{eqb-true, eqb-false}
 use Rattle.counting.specs.Tests.{bit}
-use Rattle.counting.specs.Sums.{sum, count}
+use Rattle.counting.specs.Sums.{count}
 use Rattle.counting.proofs.Joined.{no-way, by-test, pick-true, pick-false}
 use Rattle.counting.proofs.Summed.{sum-none}
 use Rattle.texts.specs.Entries.{isGiven}

@@ -6,3 +6,5 @@ pub mod Lines
 pub mod Short
 pub mod Entries
 pub mod Nonzeros
+pub mod ReadsBack
+pub mod WriteRead

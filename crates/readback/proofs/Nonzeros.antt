@@ -1,16 +1,16 @@
 -- The table of a split's cells gives its nonzeros in order, with their parts.
 -- Assumes nothing.
-use mathlib.Core.Bool.{Bool, true, false}
+use mathlib.Core.Bool.{true}
 use mathlib.Core.List.{List}
-use mathlib.Core.Path.{_≡_, refl, sym, _∙_, ap}
-use Prim.Native.Nat.{ℕ, _+_, _-_, _*_, _/_, _%_, _≤_, _<_}
+use mathlib.Core.Path.{_≡_, sym, _∙_, ap}
+use Prim.Native.Nat.{ℕ, _+_, _*_, _/_, _%_, _<_}
 use native.Mathlib.Nat.{mul-add-div, mul-add-mod-self-left, div-eq-of-lt, mod-eq-of-lt}
 use native.Mathlib.Omega.{arith}
-use lib.ListN.{length, getD}
-use Rattle.counting.specs.Sums.{sum, count}
+use lib.ListN.{getD}
+use Rattle.counting.specs.Sums.{count}
 use Rattle.model.specs.Pattern.{rowIn, columnIn}
 use Rattle.texts.specs.Entries.{isGiven}
-use Rattle.readback.proofs.Rising.{rising, count-before, count-whole}
+use Rattle.readback.proofs.Rising.{count-before, count-whole}
 use Rattle.readback.proofs.Table.{tableOf, given-mark, table-given, table-mark}
 use Rattle.readback.proofs.Given.{Gives}
 use Rattle.readback.proofs.Accepted.{cellIn, Fine}
