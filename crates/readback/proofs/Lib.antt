@@ -1,3 +1,4 @@
+pub mod Passed
 pub mod Rising
 pub mod Table
 pub mod Given

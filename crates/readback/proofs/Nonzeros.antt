@@ -12,7 +12,7 @@ use Rattle.model.specs.Pattern.{rowIn, columnIn}
 use Rattle.texts.specs.Entries.{isGiven}
 use Rattle.readback.proofs.Rising.{count-before, count-whole}
 use Rattle.readback.proofs.Table.{tableOf, given-mark, table-given, table-mark}
-use Rattle.readback.proofs.Given.{Gives}
+use Rattle.readback.proofs.Given.{GivesList, GivesParts}
 use Rattle.readback.proofs.Accepted.{cellIn, Fine}
 use Rattle.readback.proofs.Entries.{markIn}
 
@@ -49,9 +49,9 @@ module _ {m n nonzeros : ℕ} {list parts : List ℕ} (split : Fine m n nonzeros
   pub all-given : count (isGiven table) (120 * m) ≡ nonzeros
   all-given = count-whole (isGiven table) (split .in-order) (table-given (cellIn list) (markIn parts) nonzeros) given (120 * m) cell-inside
 
-  pub gives-split : Gives table (120 * m) list parts
+  pub gives-list : GivesList table (120 * m) list
   unfolding rowIn columnIn
-  gives-split =
+  gives-list =
       record {
         row =
             λ p b e. let w = nonzero-of p e in
@@ -61,6 +61,11 @@ module _ {m n nonzeros : ℕ} {list parts : List ℕ} (split : Fine m n nonzeros
             λ p b e. let w = nonzero-of p e in
             let t = count (isGiven table) p in
             sym (ap (λ k. k % 120) (w .1) ∙ cell-column (rowIn list t) (columnIn list t) (omega (arith, split .column-in t (w .0), split .columns)));
+      }
+
+  pub gives-parts : GivesParts table (120 * m) parts
+  gives-parts =
+      record {
         part =
             λ p b e. let w = nonzero-of p e in
             let t = count (isGiven table) p in

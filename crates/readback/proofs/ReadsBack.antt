@@ -27,11 +27,11 @@ use Rattle.writing.proofs.Back.{lineOver, sizes-length}
 use Rattle.writing.proofs.Head.{sizeAt, laidOut, text-laid, text-length, after-comment, header-back}
 use Rattle.readback.specs.Reads.{Filled, ReadsAs}
 use Rattle.readback.proofs.Table.{tableOf}
-use Rattle.readback.proofs.Given.{listed-length, listed-first, listed-rest, parted-length, parted-first, parted-rest}
+use Rattle.readback.proofs.Given.{listed-length, listed-rest, parted-length, parted-rest, gives-listed, gives-parted, same-list, same-parts}
 use Rattle.readback.proofs.Accepted.{cellIn, Fine, fine-split}
 use Rattle.readback.proofs.Short.{text-short}
 use Rattle.readback.proofs.Entries.{markIn, headOf, entries-back}
-use Rattle.readback.proofs.Nonzeros.{all-given, gives-split}
+use Rattle.readback.proofs.Nonzeros.{all-given, gives-list, gives-parts}
 
 module _
     {m n nonzeros : ℕ} {list parts : List ℕ} (split : Fine m n nonzeros list parts) (f : Figures) (list-slice parts-slice : List ℕ)
@@ -130,7 +130,15 @@ module _
       record {
         same-length = listed-length table list-slice (120 * m);
         first-bytes =
-            λ i l. listed-first table list-slice (120 * m) list parts (gives-split split) (120 * m) i (omega arith) (omega arith) (omega arith);
+            λ i l. same-list
+            table
+            (120 * m)
+            (listed table (120 * m) list-slice)
+            list
+            (gives-listed table list-slice (120 * m) (omega arith))
+            (gives-list split)
+            i
+            (omega arith);
         other-bytes = λ i l. listed-rest table list-slice (120 * m) i (omega arith);
       }
 
@@ -140,7 +148,15 @@ module _
       record {
         same-length = parted-length table parts-slice (120 * m);
         first-bytes =
-            λ i l. parted-first table parts-slice (120 * m) list parts (gives-split split) (120 * m) i (omega arith) (omega arith) (omega arith);
+            λ i l. same-parts
+            table
+            (120 * m)
+            (parted table (120 * m) parts-slice)
+            parts
+            (gives-parted table parts-slice (120 * m) (omega arith))
+            (gives-parts split)
+            i
+            (omega arith);
         other-bytes = λ i l. parted-rest table parts-slice (120 * m) i (omega arith);
       }
 

@@ -1,17 +1,18 @@
 -- Numbers that rise strictly, and how often a test passes that passes at them alone.
 -- Assumes nothing.
-use mathlib.Core.Bool.{Bool, true, false}
+use mathlib.Core.Bool.{Bool, true}
 use mathlib.Core.Path.{_≡_, sym, _∙_, ap}
 use mathlib.Core.Logic.{⊎-elim}
-use Prim.Native.Nat.{ℕ, zero, suc, _+_, _≤_, _<_}
+use Prim.Native.Nat.{ℕ, zero, suc, _≤_, _<_}
 use native.Mathlib.Nat.{eq-or-lt-of-le, le-of-suc-le-suc}
 use native.Mathlib.Omega.{arith}
 use lib.Dec.{ltb, eqb}
 use borrow.Author.Tests.{ltb-true, ltb-false, eqb-true, eqb-false}
 use Rattle.counting.specs.Tests.{bit}
 use Rattle.counting.specs.Sums.{count}
-use Rattle.counting.proofs.Joined.{no-way, by-test, clash, bit-true, bit-false}
-use Rattle.counting.proofs.Summed.{sum-suc, sum-none}
+use Rattle.counting.proofs.Joined.{no-way, by-test, clash}
+use Rattle.counting.proofs.Summed.{sum-none}
+use Rattle.readback.proofs.Passed.{count-passed, count-failed}
 
 -- the first `top` numbers rise strictly
 pub record Rising (c : ℕ → ℕ) (top : ℕ) : Type 0 where
@@ -28,13 +29,6 @@ rising {c} r s (suc t) l b =
 pub rising-from : {c : ℕ → ℕ} {top : ℕ} → Rising c top → (s t : ℕ) → s ≤ t → t < top → c s ≤ c t
 rising-from {c} r s t l b =
     ⊎-elim (λ e. omega (arith, ap c e)) (λ k. omega (arith, rising r s t k b)) (eq-or-lt-of-le l)
-
--- one number more
-pub count-passed : (test : ℕ → Bool) (p : ℕ) → test p ≡ true → count test (suc p) ≡ count test p + 1
-count-passed test p e = omega (arith, sum-suc (λ t. bit (test t)) p, bit-true (test p) e)
-
-pub count-failed : (test : ℕ → Bool) (p : ℕ) → test p ≡ false → count test (suc p) ≡ count test p
-count-failed test p e = omega (arith, sum-suc (λ t. bit (test t)) p, bit-false (test p) e)
 
 -- a test that passes at these numbers alone
 module _
