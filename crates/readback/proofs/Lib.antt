@@ -9,3 +9,7 @@ pub mod Entries
 pub mod Nonzeros
 pub mod ReadsBack
 pub mod WriteRead
+pub mod Entered
+pub mod Taken
+pub mod InOrder
+pub mod AnyText

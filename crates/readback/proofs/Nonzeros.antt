@@ -4,24 +4,16 @@ use mathlib.Core.Bool.{true}
 use mathlib.Core.List.{List}
 use mathlib.Core.Path.{_≡_, sym, _∙_, ap}
 use Prim.Native.Nat.{ℕ, _+_, _*_, _/_, _%_, _<_}
-use native.Mathlib.Nat.{mul-add-div, mul-add-mod-self-left, div-eq-of-lt, mod-eq-of-lt}
 use native.Mathlib.Omega.{arith}
 use lib.ListN.{getD}
 use Rattle.counting.specs.Sums.{count}
 use Rattle.model.specs.Pattern.{rowIn, columnIn}
 use Rattle.texts.specs.Entries.{isGiven}
 use Rattle.readback.proofs.Rising.{count-before, count-whole}
-use Rattle.readback.proofs.Table.{tableOf, given-mark, table-given, table-mark}
+use Rattle.readback.proofs.Table.{tableOf, cell-row, cell-column, given-mark, table-given, table-mark}
 use Rattle.readback.proofs.Given.{GivesList, GivesParts}
 use Rattle.readback.proofs.Accepted.{cellIn, Fine}
 use Rattle.readback.proofs.Entries.{markIn}
-
--- row and column of a cell
-cell-row : (i j : ℕ) → j < 120 → (120 * i + j) / 120 ≡ i
-cell-row i j l = mul-add-div {m = 120} (omega arith) i j ∙ omega (arith, div-eq-of-lt l)
-
-cell-column : (i j : ℕ) → j < 120 → (120 * i + j) % 120 ≡ j
-cell-column i j l = mul-add-mod-self-left 120 i j ∙ mod-eq-of-lt l
 
 module _ {m n nonzeros : ℕ} {list parts : List ℕ} (split : Fine m n nonzeros list parts) where
   abbrev table : List ℕ

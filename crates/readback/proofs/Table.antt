@@ -4,8 +4,8 @@ use mathlib.Core.Bool.{true, false, not}
 use mathlib.Core.List.{List}
 use mathlib.Core.Path.{_≡_, sym, _∙_, ap}
 use mathlib.Core.Logic.{⊎-elim}
-use Prim.Native.Nat.{ℕ, zero, suc, _≤_, _<_}
-use native.Mathlib.Nat.{eq-or-lt-of-le, le-of-suc-le-suc}
+use Prim.Native.Nat.{ℕ, zero, suc, _+_, _*_, _/_, _%_, _≤_, _<_}
+use native.Mathlib.Nat.{eq-or-lt-of-le, le-of-suc-le-suc, mul-add-div, mul-add-mod-self-left, div-eq-of-lt, mod-eq-of-lt}
 use native.Mathlib.Omega.{arith}
 use lib.Dec.{ltb, eqb}
 use lib.ListN.{length, getD, set, replicate, length-set, length-replicate, getD-replicate, List·getD-eq-default}
@@ -20,11 +20,18 @@ unfoldable pub tableOf : (ℕ → ℕ) → (ℕ → ℕ) → ℕ → List ℕ
 tableOf cell mark zero = noCells
 tableOf cell mark (suc t) = set (tableOf cell mark t) (cell t) (mark t)
 
-none-length : length noCells ≡ 14_400
+-- row and column of a cell
+pub cell-row : (i j : ℕ) → j < 120 → (120 * i + j) / 120 ≡ i
+cell-row i j l = mul-add-div {m = 120} (omega arith) i j ∙ omega (arith, div-eq-of-lt l)
+
+pub cell-column : (i j : ℕ) → j < 120 → (120 * i + j) % 120 ≡ j
+cell-column i j l = mul-add-mod-self-left 120 i j ∙ mod-eq-of-lt l
+
+pub none-length : length noCells ≡ 14_400
 unfolding noCells
 none-length = length-replicate {A = ℕ} 14_400 0
 
-none-there : (p : ℕ) → getD noCells p 0 ≡ 0
+pub none-there : (p : ℕ) → getD noCells p 0 ≡ 0
 unfolding noCells
 none-there p =
     by-test
