@@ -33,6 +33,18 @@ module _ (test : ℕ → Bool) where
       (λ k. omega (arith, sum-suc (λ t. bit (test t)) q, count-rise p q (le-of-suc-le-suc k)))
       (eq-or-lt-of-le l)
 
+  -- where none passes the count stays
+  pub count-flat : (p q : ℕ) → p ≤ q → ((s : ℕ) → p ≤ s → s < q → test s ≡ false) → count test q ≡ count test p
+  count-flat p zero l none =
+      let e : 0 ≡ p = omega arith in
+      ap (λ k. count test k) e
+  count-flat p (suc q) l none =
+      ⊎-elim
+      (λ e. ap (λ k. count test k) (sym e))
+      (λ k. count-failed q (none q (le-of-suc-le-suc k) (omega arith))
+      ∙ count-flat p q (le-of-suc-le-suc k) (λ s a b. none s a (omega arith)))
+      (eq-or-lt-of-le l)
+
   -- past one that passes there are more
   pub count-later : (p q : ℕ) → test p ≡ true → p < q → count test p < count test q
   count-later p q e l = omega (arith, count-passed p e, count-rise (suc p) q l)

@@ -1,18 +1,17 @@
 -- Numbers that rise strictly, and how often a test passes that passes at them alone.
 -- Assumes nothing.
 use mathlib.Core.Bool.{Bool, true}
-use mathlib.Core.Path.{_≡_, sym, _∙_, ap}
+use mathlib.Core.Path.{_≡_, _∙_, ap}
 use mathlib.Core.Logic.{⊎-elim}
 use Prim.Native.Nat.{ℕ, zero, suc, _≤_, _<_}
 use native.Mathlib.Nat.{eq-or-lt-of-le, le-of-suc-le-suc}
 use native.Mathlib.Omega.{arith}
-use lib.Dec.{ltb, eqb}
-use borrow.Author.Tests.{ltb-true, ltb-false, eqb-true, eqb-false}
-use Rattle.counting.specs.Tests.{bit}
+use lib.Dec.{ltb}
+use borrow.Author.Tests.{ltb-true, ltb-false}
 use Rattle.counting.specs.Sums.{count}
-use Rattle.counting.proofs.Joined.{no-way, by-test, clash}
-use Rattle.counting.proofs.Summed.{sum-none}
-use Rattle.readback.proofs.Passed.{count-passed, count-failed}
+use Rattle.counting.proofs.Joined.{no-way, by-test, fails}
+use Rattle.counting.proofs.Counted.{count-none}
+use Rattle.readback.proofs.Passed.{count-passed, count-flat}
 
 -- the first `top` numbers rise strictly
 pub record Rising (c : ℕ → ℕ) (top : ℕ) : Type 0 where
@@ -35,44 +34,32 @@ module _
     (test : ℕ → Bool) {c : ℕ → ℕ} {top : ℕ} (r : Rising c top)
     (passing : (p : ℕ) → test p ≡ true → (t : ℕ) × (t < top) × (p ≡ c t)) (passes : (t : ℕ) → t < top → test (c t) ≡ true) where
   counted :
-      (p t : ℕ) → ((s : ℕ) → s < t → c s < p) → ((s : ℕ) → t ≤ s → s < top → p ≤ c s) → t ≤ top → count test p ≡ t
-  counted zero zero low high b = sum-none (λ s. bit (test s))
-  counted zero (suc t) low high b = no-way (omega (arith, low t (omega arith)))
-  counted (suc p) t low high b =
-      by-test
-      (test p)
-      (λ e. let w = passing p e in
-      let s = w .0 in
-      let k : suc s ≤ t =
-      by-test (ltb s t) (λ z. ltb-true s t z) (λ z. no-way (omega (arith, high s (ltb-false s t z) (w .1), w .2))) in
-      let m : t ≤ suc s =
-      by-test
-      (ltb (suc s) t)
-      (λ z. let l = ltb-true (suc s) t z in no-way (omega (arith, low (suc s) l, r .next s (omega arith), w .2)))
-      (λ z. ltb-false (suc s) t z) in
-      let q =
-      counted
+      (t p : ℕ) → ((s : ℕ) → s < t → c s < p) → ((s : ℕ) → t ≤ s → s < top → p ≤ c s) → t ≤ top → count test p ≡ t
+  counted zero p low high b =
+      count-none
+      test
       p
-      s
-      (λ u l. omega (arith, rising r u s l (w .1), w .2))
-      (λ u l h. omega (arith, rising-from r s u l h, w .2))
-      (omega (arith, w .1)) in
-      omega (arith, count-passed test p e))
-      (λ e. let q =
-      counted
+      (λ q l. fails (test q) (λ e. let w = passing q e in omega (arith, high (w .0) (omega arith) (w .1), w .2)))
+  counted (suc t) p low high b =
+      let last : count test (c t) ≡ t =
+      counted t (c t) (λ s l. rising r s t l b) (λ s l k. rising-from r t s l k) (omega arith) in
+      count-flat
+      test
+      (suc (c t))
       p
-      t
-      (λ s l. by-test
-      (eqb (c s) p)
-      (λ z. clash (ap test (sym (eqb-true (c s) p z)) ∙ passes s (omega arith)) e)
-      (λ z. let ne = eqb-false (c s) p z in omega (arith, low s l)))
-      (λ s l h. omega (arith, high s l h))
-      b in
-      omega (arith, count-failed test p e))
+      (low t (omega arith))
+      (λ q l k. fails
+      (test q)
+      (λ e. let w = passing q e in
+      by-test
+      (ltb t (w .0))
+      (λ z. omega (arith, high (w .0) (ltb-true t (w .0) z) (w .1), w .2))
+      (λ z. omega (arith, rising-from r (w .0) t (ltb-false t (w .0) z) b, w .2))))
+      ∙ omega (arith, count-passed test (c t) (passes t b))
 
   -- below number t it passes t times, and past all of them as often as there are
   pub count-before : (t : ℕ) → t < top → count test (c t) ≡ t
-  count-before t b = counted (c t) t (λ s l. rising r s t l b) (λ s l h. rising-from r t s l h) (omega arith)
+  count-before t b = counted t (c t) (λ s l. rising r s t l b) (λ s l h. rising-from r t s l h) (omega arith)
 
   pub count-whole : (p : ℕ) → ((t : ℕ) → t < top → c t < p) → count test p ≡ top
-  count-whole p low = counted p top low (λ s l h. no-way (omega arith)) (omega arith)
+  count-whole p low = counted top p low (λ s l h. no-way (omega arith)) (omega arith)
