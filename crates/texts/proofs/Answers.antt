@@ -25,7 +25,7 @@ use Rattle.texts.specs.Entries.{noCells, Entries, entriesFrom}
 use Rattle.texts.specs.Reading.{listed, parted, givenParts, entriesBelow, answerAfter, outputAfter, listAfter, partsAfter, textVerdict, readVerdict, readCall, readList, readParts}
 
 -- the second of two checks that refuse nothing refuses nothing
-then-second : (u v : Verdict) → (u then v) ≡ Accepted → v ≡ Accepted
+pub then-second : (u v : Verdict) → (u then v) ≡ Accepted → v ≡ Accepted
 unfolding _then_
 then-second Accepted v h = h
 then-second (Refused word place) v h = let z : _≡_ {A = ℕ} 0 1 = cc in absurd (omega arith)

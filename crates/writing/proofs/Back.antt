@@ -140,6 +140,11 @@ body-length at a b c =
     omega
     (arith, length-append (first ++ (32 ∷ [])) ((next ++ (32 ∷ [])) ++ last), length-append first (32 ∷ []), length-append (next ++ (32 ∷ [])) last, length-append next (32 ∷ []))
 
+-- the line with its LF
+pub sizes-length : (at a b c : ℕ) → at + length (sizesText a b c) ≡ lineOver at a b c + 1
+sizes-length at a b c =
+    omega (arith, ap length (sizes-body a b c), length-append (threeBody a b c) (10 ∷ []), body-length at a b c)
+
 module _
     (text : List ℕ) (at a b c : ℕ) (held : Holds text at (threeBody a b c))
     (sa : a < 10 ^ 9) (sb : b < 10 ^ 9) (sc : c < 10 ^ 9) where

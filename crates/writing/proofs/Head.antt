@@ -19,7 +19,7 @@ use Rattle.texts.specs.Header.{bannerAt, headerOf}
 use Rattle.writing.specs.declared.Figures.{Figures}
 use Rattle.writing.specs.Written.{decimals, numberText, sizesText, #first-line, commentText, entriesText, headText, bodyText, textOf}
 use Rattle.writing.proofs.Held.{Holds, holds-left, holds-right, holds-as, holds-itself, every-at, digit-class, decimals-every, decimals-some}
-use Rattle.writing.proofs.Back.{lineOver, body-length, threeBody, sizes-body}
+use Rattle.writing.proofs.Back.{lineOver, sizes-length}
 use Rattle.writing.proofs.Top.{first-end, first-next, banner-back, commentBody, comment-body, comment-skipped}
 use Rattle.writing.proofs.Rows.{row-end, row-next, row-filled, row-numbers}
 
@@ -53,15 +53,11 @@ module _ (f : Figures) (m n nonzeros : ℕ) (entries : List ℕ) (sm : m < 10 ^ 
   comment-length : length (commentText f) ≡ length (commentBody f) + 1
   comment-length = ap length (comment-body f) ∙ length-append (commentBody f) (10 ∷ [])
 
-  sizes-length : sizeAt f + length (sizesText m n nonzeros) ≡ lineOver (sizeAt f) m n nonzeros + 1
-  sizes-length =
-      omega (arith, ap length (sizes-body m n nonzeros), length-append (threeBody m n nonzeros) (10 ∷ []), body-length (sizeAt f) m n nonzeros)
-
-  text-length :
+  pub text-length :
       length (laidOut f m n nonzeros entries) ≡ lineOver (sizeAt f) m n nonzeros + 1 + length entries
   text-length =
       omega
-      (arith, length-append #first-line (commentText f ++ (sizesText m n nonzeros ++ entries)), length-append (commentText f) (sizesText m n nonzeros ++ entries), length-append (sizesText m n nonzeros) entries, comment-length, sizes-length)
+      (arith, length-append #first-line (commentText f ++ (sizesText m n nonzeros ++ entries)), length-append (commentText f) (sizesText m n nonzeros ++ entries), length-append (sizesText m n nonzeros) entries, comment-length, sizes-length (sizeAt f) m n nonzeros)
 
   pub after-comment : Holds (laidOut f m n nonzeros entries) (sizeAt f) (sizesText m n nonzeros ++ entries)
   after-comment =

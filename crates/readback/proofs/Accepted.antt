@@ -1,0 +1,125 @@
+-- What an accepted split gives: sizes in their ranges, nonzeros inside and in order, parts 0 or 1.
+-- Assumes nothing.
+use mathlib.Core.Bool.{Bool, true, false, not}
+use mathlib.Core.List.{List}
+use mathlib.Core.Path.{_≡_, refl, _∙_, ap}
+use mathlib.Core.Logic.{⊎-elim}
+use Prim.Native.Nat.{ℕ, zero, suc, _+_, _*_, _≤_, _<_}
+use native.Mathlib.Nat.{eq-or-lt-of-le, le-of-suc-le-suc}
+use native.Mathlib.Omega.{arith}
+use lib.Dec.{ltb, leb, eqb}
+use lib.ListN.{length, getD}
+use borrow.Author.Tests.{ltb-true, ltb-false, leb-false, eqb-true, not-false}
+use Rattle.counting.specs.Tests.{_and_, _or_}
+use Rattle.counting.proofs.Joined.{no-way, and-left, and-right, or-cases, or-fails-left, or-fails-right}
+use Rattle.model.specs.declared.Word.{Word}
+use Rattle.model.specs.declared.Word.the-variants.{OffMatrix, BadPart, ShortBuffer, Order}
+use Rattle.model.specs.declared.Verdict.{Verdict}
+use Rattle.model.specs.declared.Verdict.the-variants.{Accepted}
+use Rattle.model.specs.Refusal.{refuse}
+use Rattle.model.specs.Pattern.{rowIn, columnIn}
+use Rattle.model.specs.Calls.{sizesVerdict, rises, entryVerdict}
+use Rattle.pattern.specs.Checks.{eachVerdict}
+use Rattle.pattern.specs.Measures.{partVerdict}
+use Rattle.pattern.proofs.Verdicts.{then-first, rows-small, columns-small, nonzeros-small}
+use Rattle.texts.proofs.Answers.{then-second}
+use Rattle.writing.specs.Writing.{nonzeroVerdict, writeVerdict}
+use Rattle.readback.proofs.Rising.{Rising}
+
+-- the cell of nonzero t in a table with 120 cells for each row
+abbrev pub cellIn : List ℕ → ℕ → ℕ
+cellIn list t = 120 * rowIn list t + columnIn list t
+
+-- a split that the writer accepts
+pub record Fine (m n nonzeros : ℕ) (list parts : List ℕ) : Type 0 where
+  pub sizes : sizesVerdict m n nonzeros ≡ Accepted
+  pub rows : m ≤ 120
+  pub columns : n ≤ 120
+  pub few : nonzeros ≤ 2000
+  pub list-room : 2 * nonzeros ≤ length list
+  pub parts-room : nonzeros ≤ length parts
+  pub row-in : (t : ℕ) → t < nonzeros → rowIn list t < m
+  pub column-in : (t : ℕ) → t < nonzeros → columnIn list t < n
+  pub part-in : (t : ℕ) → t < nonzeros → getD parts t 0 ≤ 1
+  pub in-order : Rising (cellIn list) nonzeros
+
+-- a check that refuses nothing: its test fails
+pub refuse-fails : (b : Bool) (word : Word) (place : ℕ) → refuse b word place ≡ Accepted → b ≡ false
+unfolding refuse
+refuse-fails true word place h = let z : _≡_ {A = ℕ} 0 1 = cc in no-way (omega arith)
+refuse-fails false word place h = refl
+
+-- checks of numbers that refuse nothing refuse nothing of each
+pub each-accepted : (check : ℕ → Verdict) (n t : ℕ) → eachVerdict check n ≡ Accepted → t < n → check t ≡ Accepted
+unfolding eachVerdict
+each-accepted check zero t h l = no-way (omega arith)
+each-accepted check (suc n) t h l =
+    ⊎-elim
+    (λ e. ap check e ∙ then-second (eachVerdict check n) (check n) h)
+    (λ k. each-accepted check n t (then-first (eachVerdict check n) (check n) h) k)
+    (eq-or-lt-of-le (le-of-suc-le-suc l))
+
+-- a nonzero that comes after another has a later cell
+later-cell :
+    (list : List ℕ) (n t : ℕ) → n ≤ 120 → columnIn list t < n → rises list (suc t) ≡ true → cellIn list t < cellIn list (suc t)
+unfolding rises
+later-cell list n t b c h =
+    let same = eqb (rowIn list t) (rowIn list (suc t)) in
+    let column = ltb (columnIn list t) (columnIn list (suc t)) in
+    ⊎-elim
+    (λ e. omega (arith, ltb-true (rowIn list t) (rowIn list (suc t)) e))
+    (λ e. omega (arith, eqb-true (rowIn list t) (rowIn list (suc t)) (and-left same column e), ltb-true (columnIn list t) (columnIn list (suc t)) (and-right same column e)))
+    (or-cases (ltb (rowIn list t) (rowIn list (suc t))) (same and column) h)
+
+module _ (m n nonzeros : ℕ) (list parts : List ℕ) (accepted : writeVerdict m n nonzeros list parts ≡ Accepted) where
+  sizes-fine : sizesVerdict m n nonzeros ≡ Accepted
+  unfolding writeVerdict
+  sizes-fine = then-first _ _ accepted
+
+  rooms : ltb (length list) (2 * nonzeros) or ltb (length parts) nonzeros ≡ false
+  unfolding writeVerdict
+  rooms = refuse-fails _ ShortBuffer 0 (then-first _ _ (then-second _ _ accepted))
+
+  each : (t : ℕ) → t < nonzeros → nonzeroVerdict m n list parts t ≡ Accepted
+  unfolding writeVerdict
+  each t l = each-accepted (nonzeroVerdict m n list parts) nonzeros t (then-second _ _ (then-second _ _ accepted)) l
+
+  entry-accepted : (t : ℕ) → t < nonzeros → entryVerdict m n list t ≡ Accepted
+  unfolding nonzeroVerdict
+  entry-accepted t l = then-first (entryVerdict m n list t) (partVerdict parts t) (each t l)
+
+  inside : (t : ℕ) → t < nonzeros → leb m (rowIn list t) or leb n (columnIn list t) ≡ false
+  unfolding entryVerdict
+  inside t l =
+      refuse-fails _ OffMatrix t (then-first (refuse (leb m (rowIn list t) or leb n (columnIn list t)) OffMatrix t) _ (entry-accepted t l))
+
+  ordered : (t : ℕ) → t < nonzeros → rises list t ≡ true
+  unfolding entryVerdict
+  ordered t l =
+      not-false (rises list t) (refuse-fails (not (rises list t)) Order t (then-second (refuse (leb m (rowIn list t) or leb n (columnIn list t)) OffMatrix t) _ (entry-accepted t l)))
+
+  part-fails : (t : ℕ) → t < nonzeros → ltb 1 (getD parts t 0) ≡ false
+  unfolding nonzeroVerdict partVerdict
+  part-fails t l = refuse-fails (ltb 1 (getD parts t 0)) BadPart t (then-second (entryVerdict m n list t) _ (each t l))
+
+  column-inside : (t : ℕ) → t < nonzeros → columnIn list t < n
+  column-inside t l = leb-false n (columnIn list t) (or-fails-right (leb m (rowIn list t)) (leb n (columnIn list t)) (inside t l))
+
+  pub fine-split : Fine m n nonzeros list parts
+  fine-split =
+      record {
+        sizes = sizes-fine;
+        rows = rows-small m n nonzeros sizes-fine;
+        columns = columns-small m n nonzeros sizes-fine;
+        few = nonzeros-small m n nonzeros sizes-fine;
+        list-room = ltb-false (length list) (2 * nonzeros) (or-fails-left _ (ltb (length parts) nonzeros) rooms);
+        parts-room = ltb-false (length parts) nonzeros (or-fails-right (ltb (length list) (2 * nonzeros)) _ rooms);
+        row-in = λ t l. leb-false m (rowIn list t) (or-fails-left (leb m (rowIn list t)) (leb n (columnIn list t)) (inside t l));
+        column-in = column-inside;
+        part-in = λ t l. ltb-false 1 (getD parts t 0) (part-fails t l);
+        in-order =
+            record {
+              next =
+                  λ t l. later-cell list n t (columns-small m n nonzeros sizes-fine) (column-inside t (omega arith)) (ordered (suc t) l);
+            };
+      }

@@ -1,0 +1,15 @@
+pub mod Passed
+pub mod Rising
+pub mod Table
+pub mod Given
+pub mod Accepted
+pub mod Lines
+pub mod Short
+pub mod Entries
+pub mod Nonzeros
+pub mod ReadsBack
+pub mod WriteRead
+pub mod Entered
+pub mod Taken
+pub mod InOrder
+pub mod AnyText

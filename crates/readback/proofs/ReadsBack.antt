@@ -1,0 +1,174 @@
+-- A written split reads back as the same split.
+-- Assumes nothing.
+use mathlib.Core.Bool.{true, false}
+use mathlib.Core.List.{List}
+use mathlib.Core.Path.{_≡_, refl, sym, _∙_, ap}
+use Prim.Native.Nat.{ℕ, _+_, _*_, _^_, _≤_, _<_}
+use native.Mathlib.Omega.{arith}
+use lib.ListN.{length}
+use borrow.Author.Tests.{le-ltb}
+use Rattle.counting.proofs.Joined.{or-fails, and-fails-right}
+use Rattle.model.specs.declared.Word.the-variants.{Banner, SizeLine, TooBig, ShortBuffer}
+use Rattle.model.specs.declared.Verdict.the-variants.{Accepted}
+use Rattle.model.specs.Calls.{sizesVerdict}
+use Rattle.pattern.proofs.Verdicts.{refuse-false, then-accepted}
+use Rattle.scanning.specs.Checks.{moved}
+use Rattle.texts.specs.declared.Header.{Header}
+use Rattle.texts.specs.declared.ReadAnswer.the-variants as read-answer
+use Rattle.texts.specs.Header.{textLimit, headerOf, short, headVerdict}
+use Rattle.texts.specs.Entries.{noCells, Entries, entriesFrom}
+use Rattle.texts.specs.Reading.{listed, parted, readCall, readList, readParts}
+use Rattle.texts.proofs.Answers.{parts-integer, below-read, below-list, below-parts, read-answer-is, read-list-is, read-parts-is}
+use Rattle.writing.specs.declared.Figures.{Figures}
+use Rattle.writing.specs.Written.{sizesText, entriesText, textOf}
+use Rattle.writing.specs.Writing.{writeVerdict}
+use Rattle.writing.proofs.Held.{Holds, holds-right}
+use Rattle.writing.proofs.Back.{lineOver, sizes-length}
+use Rattle.writing.proofs.Head.{sizeAt, laidOut, text-laid, text-length, after-comment, header-back}
+use Rattle.readback.specs.Reads.{Filled, ReadsAs}
+use Rattle.readback.proofs.Table.{tableOf}
+use Rattle.readback.proofs.Given.{listed-length, listed-rest, parted-length, parted-rest, gives-listed, gives-parted, same-list, same-parts}
+use Rattle.readback.proofs.Accepted.{cellIn, Fine, fine-split}
+use Rattle.readback.proofs.Short.{text-short}
+use Rattle.readback.proofs.Entries.{markIn, headOf, entries-back}
+use Rattle.readback.proofs.Nonzeros.{all-given, gives-list, gives-parts}
+
+module _
+    {m n nonzeros : ℕ} {list parts : List ℕ} (split : Fine m n nonzeros list parts) (f : Figures) (list-slice parts-slice : List ℕ)
+    (list-room : 2 * nonzeros ≤ length list-slice) (parts-room : nonzeros ≤ length parts-slice) where
+  abbrev text : List ℕ
+  text = laidOut f m n nonzeros (entriesText list parts nonzeros)
+
+  -- where the entries start
+  abbrev start : ℕ
+  start = lineOver (sizeAt f) m n nonzeros + 1
+
+  abbrev h : Header
+  h = headOf m n nonzeros (sizeAt f) start
+
+  abbrev table : List ℕ
+  table = tableOf (cellIn list) (markIn parts) nonzeros
+
+  m-small : m < 10 ^ 9
+  m-small = omega (arith, split .rows)
+
+  n-small : n < 10 ^ 9
+  n-small = omega (arith, split .columns)
+
+  nonzeros-small : nonzeros < 10 ^ 9
+  nonzeros-small = omega (arith, split .few)
+
+  header : h ≡ headerOf text
+  header = sym (header-back f m n nonzeros (entriesText list parts nonzeros) m-small n-small nonzeros-small)
+
+  room : short h (length list-slice) (length parts-slice) ≡ false
+  unfolding short
+  room = or-fails (le-ltb (length list-slice) (2 * nonzeros) list-room) (and-fails-right true (le-ltb (length parts-slice) nonzeros parts-room))
+
+  sizes-moved : moved (sizesVerdict m n nonzeros) (sizeAt f) ≡ Accepted
+  unfolding moved
+  sizes-moved = ap (λ v. moved v (sizeAt f)) (split .sizes)
+
+  head-fine : headVerdict h (length text) (length list-slice) (length parts-slice) ≡ Accepted
+  unfolding headVerdict
+  head-fine =
+      let limit : length text ≤ textLimit = omega (arith, text-short split f, ap length (text-laid m n nonzeros list parts f)) in
+      then-accepted
+      _
+      (then-accepted
+      _
+      (then-accepted
+      _
+      (then-accepted _ (refuse-false TooBig 0 (le-ltb textLimit (length text) limit)) ∙ refuse-false Banner 0 refl)
+      ∙ refuse-false SizeLine (sizeAt f) refl)
+      ∙ sizes-moved)
+      ∙ refuse-false ShortBuffer 0 room
+
+  held-entries : Holds text start (entriesText list parts nonzeros)
+  held-entries =
+      rw (sizes-length (sizeAt f) m n nonzeros) at
+      (holds-right (sizesText m n nonzeros) (entriesText list parts nonzeros) (after-comment f m n nonzeros (entriesText list parts nonzeros) m-small n-small nonzeros-small))
+
+  all-read : entriesFrom text h (length text) start 0 noCells ≡ (record { verdict = Accepted; cells = table })
+  all-read =
+      entries-back
+      text
+      split
+      (sizeAt f)
+      start
+      held-entries
+      (text-length f m n nonzeros (entriesText list parts nonzeros) m-small n-small nonzeros-small)
+
+  verdict-read : Accepted ≡ entriesFrom text h (length text) start 0 noCells .verdict
+  verdict-read = sym (ap (λ (e : Entries). e .verdict) all-read)
+
+  cells-read : table ≡ entriesFrom text h (length text) start 0 noCells .cells
+  cells-read = sym (ap (λ (e : Entries). e .cells) all-read)
+
+  answer-back : readCall text list-slice parts-slice ≡ read-answer.Read m n nonzeros true
+  answer-back =
+      sym
+      (read-answer-is text list-slice parts-slice h Accepted header (sym head-fine) (read-answer.Read m n nonzeros true) refl
+      (below-read text h noCells table Accepted refl verdict-read cells-read refl))
+
+  list-is : readList text list-slice parts-slice ≡ listed table (120 * m) list-slice
+  list-is =
+      sym
+      (read-list-is text list-slice parts-slice h Accepted header (sym head-fine) (listed table (120 * m) list-slice) refl
+      (below-list text h noCells table Accepted refl verdict-read cells-read list-slice (listed table (120 * m) list-slice) refl refl))
+
+  parts-are : readParts text list-slice parts-slice ≡ parted table (120 * m) parts-slice
+  parts-are =
+      sym
+      (read-parts-is text list-slice parts-slice h Accepted header (sym head-fine) (parted table (120 * m) parts-slice) refl
+      (below-parts text h noCells table Accepted refl verdict-read cells-read parts-slice (parted table (120 * m) parts-slice) refl
+      (parts-integer h table parts-slice (parted table (120 * m) parts-slice) m refl refl refl)))
+
+  list-filled : Filled (listed table (120 * m) list-slice) list list-slice (2 * nonzeros)
+  list-filled =
+      let all = all-given split in
+      record {
+        same-length = listed-length table list-slice (120 * m);
+        first-bytes =
+            λ i l. same-list
+            table
+            (120 * m)
+            (listed table (120 * m) list-slice)
+            list
+            (gives-listed table list-slice (120 * m) (omega arith))
+            (gives-list split)
+            i
+            (omega arith);
+        other-bytes = λ i l. listed-rest table list-slice (120 * m) i (omega arith);
+      }
+
+  parts-filled : Filled (parted table (120 * m) parts-slice) parts parts-slice nonzeros
+  parts-filled =
+      let all = all-given split in
+      record {
+        same-length = parted-length table parts-slice (120 * m);
+        first-bytes =
+            λ i l. same-parts
+            table
+            (120 * m)
+            (parted table (120 * m) parts-slice)
+            parts
+            (gives-parted table parts-slice (120 * m) (omega arith))
+            (gives-parts split)
+            i
+            (omega arith);
+        other-bytes = λ i l. parted-rest table parts-slice (120 * m) i (omega arith);
+      }
+
+  laid-back : ReadsAs text m n nonzeros list parts list-slice parts-slice
+  laid-back = record { answer = answer-back; list-back = rw list-is list-filled; parts-back = rw parts-are parts-filled }
+
+-- for every split that the writer accepts, all figures, and slices with room for it
+pub reads-back :
+    (m n nonzeros : ℕ) (list parts : List ℕ) (f : Figures) (list-slice parts-slice : List ℕ) →
+    writeVerdict m n nonzeros list parts ≡ Accepted → 2 * nonzeros ≤ length list-slice → nonzeros ≤ length parts-slice →
+    ReadsAs (textOf m n nonzeros list parts f) m n nonzeros list parts list-slice parts-slice
+reads-back m n nonzeros list parts f list-slice parts-slice accepted list-room parts-room =
+    rw
+    (text-laid m n nonzeros list parts f)
+    (laid-back (fine-split m n nonzeros list parts accepted) f list-slice parts-slice list-room parts-room)

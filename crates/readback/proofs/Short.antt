@@ -1,0 +1,40 @@
+-- A written text is short enough to be read.
+-- Assumes nothing.
+use mathlib.Core.List.{List, _++_}
+use mathlib.Core.Path.{ap}
+use Prim.Native.Nat.{ℕ, zero, suc, _+_, _*_, _≤_, _<_}
+use native.Mathlib.Omega.{arith}
+use lib.ListN.{length, getD, length-append}
+use Rattle.model.specs.Pattern.{rowIn, columnIn}
+use Rattle.texts.specs.Header.{textLimit}
+use Rattle.writing.specs.declared.Figures.{Figures}
+use Rattle.writing.specs.Written.{sizesText, entryText, entriesText, headText, bodyText, textOf}
+use Rattle.writing.proofs.Puttings.{sizes-short, head-short}
+use Rattle.writing.proofs.Held.{decimals-fit}
+use Rattle.writing.proofs.Back.{sizes-length}
+use Rattle.readback.proofs.Accepted.{Fine}
+use Rattle.readback.proofs.Lines.{entries-none, entries-length}
+
+module _ {m n nonzeros : ℕ} {list parts : List ℕ} (split : Fine m n nonzeros list parts) where
+  -- an entry: three digits, a space, three digits, a space, a digit and LF at most
+  entry-short : (t : ℕ) → t < nonzeros → length (entryText list parts t) ≤ 10
+  unfolding entryText
+  entry-short t l =
+      let a = rowIn list t + 1 in
+      let b = columnIn list t + 1 in
+      let c = getD parts t 0 + 1 in
+      let row = decimals-fit 20 2 a (omega (arith, split .rows, split .row-in t l)) in
+      let column = decimals-fit 20 2 b (omega (arith, split .columns, split .column-in t l)) in
+      let part = decimals-fit 20 0 c (omega (arith, split .part-in t l)) in
+      omega (arith, sizes-length 0 a b c)
+
+  entries-short : (t : ℕ) → t ≤ nonzeros → length (entriesText list parts t) ≤ 10 * t
+  entries-short zero b = omega (arith, ap length (entries-none list parts))
+  entries-short (suc t) b = omega (arith, entries-length list parts t, entry-short t b, entries-short t (omega arith))
+
+  pub text-short : (f : Figures) → length (textOf m n nonzeros list parts f) ≤ textLimit
+  unfolding textOf bodyText
+  text-short f =
+      let entries = entriesText list parts nonzeros in
+      omega
+      (arith, length-append (headText f) (sizesText m n nonzeros ++ entries), length-append (sizesText m n nonzeros) entries, head-short f, sizes-short m n nonzeros, entries-short nonzeros (omega arith), split .few)

@@ -1,0 +1,81 @@
+-- The table of cells after entries one after another: each cell has its entry's mark, and all others are empty.
+-- Assumes nothing.
+use mathlib.Core.Bool.{true, false, not}
+use mathlib.Core.List.{List}
+use mathlib.Core.Path.{_≡_, sym, _∙_, ap}
+use mathlib.Core.Logic.{⊎-elim}
+use Prim.Native.Nat.{ℕ, zero, suc, _+_, _*_, _/_, _%_, _≤_, _<_}
+use native.Mathlib.Nat.{eq-or-lt-of-le, le-of-suc-le-suc, mul-add-div, mul-add-mod-self-left, div-eq-of-lt, mod-eq-of-lt}
+use native.Mathlib.Omega.{arith}
+use lib.Dec.{ltb, eqb}
+use lib.ListN.{length, getD, set, replicate, length-set, length-replicate, getD-replicate, List·getD-eq-default}
+use lib.Seq.{getD-set-same, getD-set-other}
+use borrow.Author.Tests.{ltb-true, ltb-false, eqb-true, eqb-false, eq-eqb, ne-eqb}
+use Rattle.counting.proofs.Joined.{no-way, by-test, clash}
+use Rattle.texts.specs.Entries.{noCells, isGiven}
+use Rattle.readback.proofs.Rising.{Rising, rising}
+
+-- the table after the first entries, entry t with its cell and its mark
+unfoldable pub tableOf : (ℕ → ℕ) → (ℕ → ℕ) → ℕ → List ℕ
+tableOf cell mark zero = noCells
+tableOf cell mark (suc t) = set (tableOf cell mark t) (cell t) (mark t)
+
+-- row and column of a cell
+pub cell-row : (i j : ℕ) → j < 120 → (120 * i + j) / 120 ≡ i
+cell-row i j l = mul-add-div {m = 120} (omega arith) i j ∙ omega (arith, div-eq-of-lt l)
+
+pub cell-column : (i j : ℕ) → j < 120 → (120 * i + j) % 120 ≡ j
+cell-column i j l = mul-add-mod-self-left 120 i j ∙ mod-eq-of-lt l
+
+pub none-length : length noCells ≡ 14_400
+unfolding noCells
+none-length = length-replicate {A = ℕ} 14_400 0
+
+pub none-there : (p : ℕ) → getD noCells p 0 ≡ 0
+unfolding noCells
+none-there p =
+    by-test
+    (ltb p 14_400)
+    (λ e. getD-replicate 14_400 p 0 0 (ltb-true p 14_400 e))
+    (λ e. let l = ltb-false p 14_400 e in
+    List·getD-eq-default (replicate 14_400 0) 0 {n = p} (omega (arith, length-replicate {A = ℕ} 14_400 0)))
+
+pub given-mark : (cells : List ℕ) (p : ℕ) → (getD cells p 0 ≡ 0 → ⊥) → isGiven cells p ≡ true
+unfolding isGiven
+given-mark cells p h = ap not (ne-eqb (getD cells p 0) 0 h)
+
+pub not-given : (cells : List ℕ) (p : ℕ) → getD cells p 0 ≡ 0 → isGiven cells p ≡ false
+unfolding isGiven
+not-given cells p h = ap not (eq-eqb (getD cells p 0) 0 h)
+
+module _ (cell mark : ℕ → ℕ) where
+  table-length : (t : ℕ) → length (tableOf cell mark t) ≡ 14_400
+  unfolding tableOf
+  table-length zero = none-length
+  table-length (suc t) = length-set (tableOf cell mark t) (cell t) (mark t) ∙ table-length t
+
+  -- what is given is the cell of an entry
+  pub table-given : (t p : ℕ) → isGiven (tableOf cell mark t) p ≡ true → (s : ℕ) × (s < t) × (p ≡ cell s)
+  unfolding tableOf isGiven
+  table-given zero p e = clash e (not-given noCells p (none-there p))
+  table-given (suc t) p e =
+      by-test
+      (eqb p (cell t))
+      (λ z. (t, omega arith, eqb-true p (cell t) z))
+      (λ z. let other = getD-set-other (tableOf cell mark t) (cell t) p (mark t) 0 (eqb-false p (cell t) z) in
+      let w = table-given t p (ap (λ b. not (eqb b 0)) (sym other) ∙ e) in
+      (w .0, omega (arith, w .1), w .2))
+
+  -- an entry's cell has its mark
+  pub table-mark :
+      {top : ℕ} → Rising cell top → (t s : ℕ) → t ≤ top → s < t → cell s < 14_400 → getD (tableOf cell mark t) (cell s) 0 ≡ mark s
+  unfolding tableOf
+  table-mark r zero s b l h = no-way (omega arith)
+  table-mark r (suc t) s b l h =
+      ⊎-elim
+      (λ e. ap (λ k. getD (set (tableOf cell mark t) (cell t) (mark t)) (cell k) 0) e
+      ∙ getD-set-same (tableOf cell mark t) (cell t) (mark t) 0 (omega (arith, table-length t, ap cell e))
+      ∙ ap mark (sym e))
+      (λ k. getD-set-other (tableOf cell mark t) (cell t) (cell s) (mark t) 0 (λ e. omega (arith, rising r s t k (omega arith)))
+      ∙ table-mark r t s (omega arith) k h)
+      (eq-or-lt-of-le (le-of-suc-le-suc l))
