@@ -5,6 +5,7 @@ pub mod cap;
 pub mod checks;
 pub mod measures;
 pub mod reading;
+pub mod refusals;
 pub mod splits;
 
 // A volume or a load, or a refusal.

@@ -5,3 +5,4 @@ pub mod Back
 pub mod Top
 pub mod Rows
 pub mod Head
+pub mod Lines

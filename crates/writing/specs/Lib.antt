@@ -1,3 +1,4 @@
 pub mod Written
 pub mod Writing
 pub mod Samples
+pub mod Lines

@@ -18,6 +18,8 @@ ghost use lib.ListN.{length};
 ghost use Rattle.writing.specs.Written.{Puts, decimals, numberText, figureText, entryText, entriesText, endingText, commentText, sizesText, headText, bodyText, textOf};
 ghost use Rattle.writing.specs.Writing.{lengthAnswer, textOut, writeCall, writeOut};
 
+pub mod lines;
+
 // The last decimal digit of a number.
 fn digit_byte(n: u64) -> u8
     ensures { λ r. ⌜ r ≡ 48 + n % 10 ⌝ }
