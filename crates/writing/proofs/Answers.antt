@@ -3,14 +3,14 @@
 use mathlib.Core.Bool.{Bool, true, false}
 use mathlib.Core.List.{List}
 use mathlib.Core.Path.{_≡_, refl, sym, _∙_, ap}
-use Prim.Native.Nat.{ℕ, _*_, _≤_, _<_}
+use Prim.Native.Nat.{ℕ, _+_, _*_, _≤_, _<_}
 use native.Mathlib.Omega.{arith}
 use lib.Dec.{ltb}
 use lib.ListN.{length}
 use lib.Seq.{sets}
 use borrow.Author.Tests.{lt-ltb, le-ltb}
 use Rattle.counting.specs.Tests.{_or_, pick}
-use Rattle.counting.proofs.Joined.{pick-true, pick-false}
+use Rattle.counting.proofs.Joined.{no-way, by-test, pick-true, pick-false}
 use Rattle.model.specs.declared.Word.{Word}
 use Rattle.model.specs.declared.Word.the-variants.{ShortBuffer}
 use Rattle.model.specs.declared.Verdict.{Verdict}
@@ -84,3 +84,43 @@ module _ (m n nonzeros : ℕ) (list parts : List ℕ) (f : Figures) (out : List 
   pub write-out-kept : (word : Word) (place : ℕ) → v ≡ Refused word place → out ≡ writeOut m n nonzeros list parts f out
   unfolding writeOut outAfter
   write-out-kept word place a = sym (ap (λ x. outAfter x (textOf m n nonzeros list parts f) out) (sym e ∙ a))
+
+-- a writing that answers a length has put its text; one that is refused has put nothing
+left-by :
+    (v : Verdict) (text out : List ℕ) (len : ℕ) → answerAfter v text out ≡ write-answer.Written len →
+    Puts out 0 text (outAfter v text out) len
+unfolding answerAfter outAfter lengthAnswer textOut
+left-by (Refused word place) text out len e = let z : _≡_ {A = ℕ} 0 1 = cc in no-way (omega arith)
+left-by Accepted text out len e =
+    by-test
+    (ltb (length out) (length text))
+    (λ b. let q = sym (pick-true (write-answer.Refused ShortBuffer 0) (write-answer.Written (length text)) b) ∙ e in
+    let z : _≡_ {A = ℕ} 0 1 = cc in no-way (omega arith))
+    (λ b. let q = sym (pick-false (write-answer.Refused ShortBuffer 0) (write-answer.Written (length text)) b) ∙ e in
+    let same : length text ≡ len = cc in
+    record { after = omega arith; bytes = pick-false out (sets out 0 text) b })
+
+kept-by :
+    (v : Verdict) (text out : List ℕ) (word : Word) (place : ℕ) → answerAfter v text out ≡ write-answer.Refused word place →
+    outAfter v text out ≡ out
+unfolding answerAfter outAfter lengthAnswer textOut
+kept-by (Refused w p) text out word place e = refl
+kept-by Accepted text out word place e =
+    by-test
+    (ltb (length out) (length text))
+    (λ b. pick-true out (sets out 0 text) b)
+    (λ b. let q = sym (pick-false (write-answer.Refused ShortBuffer 0) (write-answer.Written (length text)) b) ∙ e in
+    let z : _≡_ {A = ℕ} 0 1 = cc in no-way (omega arith))
+
+module _ (m n nonzeros : ℕ) (list parts : List ℕ) (f : Figures) (out : List ℕ) where
+  pub write-puts :
+      (len : ℕ) → writeCall m n nonzeros list parts f out ≡ write-answer.Written len →
+      Puts out 0 (textOf m n nonzeros list parts f) (writeOut m n nonzeros list parts f out) len
+  unfolding writeCall writeOut
+  write-puts len e = left-by (writeVerdict m n nonzeros list parts) (textOf m n nonzeros list parts f) out len e
+
+  pub write-keeps :
+      (word : Word) (place : ℕ) → writeCall m n nonzeros list parts f out ≡ write-answer.Refused word place →
+      writeOut m n nonzeros list parts f out ≡ out
+  unfolding writeCall writeOut
+  write-keeps word place e = kept-by (writeVerdict m n nonzeros list parts) (textOf m n nonzeros list parts f) out word place e

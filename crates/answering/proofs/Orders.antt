@@ -1,0 +1,47 @@
+-- Laws of the first line: its numbers end soon, and its parts make up the order.
+-- Assumes nothing.
+use mathlib.Core.Bool.{Bool, true, false}
+use mathlib.Core.List.{List}
+use mathlib.Core.Path.{_≡_, refl, sym, _∙_, ap}
+use Prim.Native.Nat.{ℕ, zero, suc, _+_, _-_, _≤_}
+use native.Mathlib.Omega.{arith}
+use lib.Dec.{eqb}
+use lib.ListN.{getD}
+use Rattle.counting.specs.Tests.{_and_, pick}
+use Rattle.counting.proofs.Joined.{by-test, pick-true, pick-false}
+use Rattle.scanning.specs.declared.Run.{Run}
+use Rattle.scanning.specs.declared.Run.the-variants.{Digits}
+use Rattle.scanning.specs.Lines.{past, runsAt, runEnd}
+use Rattle.scanning.specs.Words.{sameWord, isNumber, numberValue}
+use Rattle.answering.specs.declared.Order.{Order}
+use Rattle.answering.specs.Ordering.{#percent, #budget, orderOf}
+
+-- a run ends where it must at the latest
+past-within : (test : ℕ → Bool) (at k : ℕ) → past test at k ≤ at + k
+unfolding past
+past-within test at zero = omega arith
+past-within test at (suc k) =
+    by-test
+    (test at)
+    (λ t. omega (arith, ap (λ (x : ℕ). x) (pick-true (past test (at + 1) k) at t), past-within test (at + 1) k))
+    (λ t. omega (arith, pick-false (past test (at + 1) k) at t))
+
+pub run-within : (run : Run) (text : List ℕ) (at stop : ℕ) → at ≤ stop → runEnd run text at stop ≤ stop
+unfolding runEnd
+run-within run text at stop h = omega (arith, past-within (runsAt run text) at (stop - at))
+
+-- an order of these parts
+abbrev pub orderBy : Bool → ℕ → ℕ → ℕ → Order
+orderBy fine percent budget next = record { fine = fine; percent = percent; budget = budget; next = next }
+
+pub order-is :
+    (input : List ℕ) (stop end percent budget last : ℕ) (first second one two words numbers both fine : Bool) →
+    stop ≡ runEnd Digits input 8 18 → end ≡ runEnd Digits input (stop + 8) (stop + 8 + 10) →
+    first ≡ sameWord input 0 8 false #percent → second ≡ sameWord input stop (stop + 8) false #budget → words ≡ (first and second) →
+    one ≡ isNumber input 8 stop → two ≡ isNumber input (stop + 8) end → numbers ≡ (one and two) →
+    last ≡ getD input end 0 → both ≡ (words and numbers) → fine ≡ (both and eqb last 10) →
+    percent ≡ numberValue input 8 stop → budget ≡ numberValue input (stop + 8) end →
+    orderBy fine percent budget (end + 1) ≡ orderOf input
+unfolding orderOf
+order-is input stop end percent budget last first second one two words numbers both fine e1 e2 e3 e4 e5 e6 e7 e8 e9 e10 e11 e12 e13 =
+    rw (e13, e12, e11, e10, e9, e8, e7, e6, e5, e4, e3, e2, e1)

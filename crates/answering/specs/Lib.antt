@@ -1,0 +1,2 @@
+pub mod Ordering
+pub mod Answer

@@ -1,0 +1,193 @@
+// A pattern's text split: read, capped, opened, run, shown and written.
+use crate::ordering::order_of;
+use model::CapAnswer;
+use model::RunAnswer;
+use model::Search;
+use model::ShowAnswer;
+use model::Verdict;
+use model::Word;
+use pattern::cap::cap_from_percent;
+use texts::ReadAnswer;
+use texts::read::read;
+use writing::Figures;
+use writing::WriteAnswer;
+use writing::write::lines::put_none;
+use writing::write::lines::put_refused;
+use writing::write::write;
+ghost use mathlib.Core.Path.{_≡_};
+ghost use Rattle.model.specs.declared.ShowAnswer.the-variants.{Split};
+ghost use Rattle.model.specs.Calls.{capCall, openCall, runCall, completeNumber};
+ghost use Rattle.writing.specs.Written.{Puts};
+ghost use Rattle.answering.specs.Answer.{figuresOf, lineText, afterShowing, searchText, ranText, openedText, afterCap, patternText, answerText};
+
+// Complete 0 or 1.
+pub fn complete_number(complete: bool) -> u64
+    ensures { λ r. ⌜ r ≡ completeNumber complete ⌝ }
+{
+    if complete { 1 } else { 0 }
+}
+
+// The figures of a search with a split to show.
+pub fn figures_of(search: Search, volume: u64, floor: u64) -> Figures
+    ensures { λ r. ⌜ r ≡ figuresOf search volume floor ⌝ }
+{
+    Figures {
+        volume,
+        cap: search.cap,
+        tries: search.tries,
+        floor,
+        complete: complete_number(search.complete),
+    }
+}
+
+// Writes a split as a text.
+pub fn put_split(
+    m: u64,
+    n: u64,
+    nonzeros: u64,
+    list: &[u8],
+    parts: &[u8],
+    search: Search,
+    volume: u64,
+    floor: u64,
+    out: &mut [u8],
+) -> usize
+    ensures { λ r. ⌜ Puts (now (out .entry)) 0 (afterShowing (Split volume floor) search m n nonzeros (now (list .entry)) (now (parts .entry)) (now (out .entry))) (now (out .exit)) r ⌝ }
+{
+    let figures = figures_of(search, volume, floor);
+    let written = write(m, n, nonzeros, list, parts, figures, out);
+    match written {
+        WriteAnswer::Written(len) => len as usize,
+        WriteAnswer::Refused(word, place) => put_refused(out, word, place),
+    }
+}
+
+// Writes the line of an answer without a split.
+pub fn put_line(shown: ShowAnswer, cap: u64, tries: u64, out: &mut [u8]) -> usize
+    ensures { λ r. ⌜ Puts (now (out .entry)) 0 (lineText shown cap tries) (now (out .exit)) r ⌝ }
+{
+    match shown {
+        ShowAnswer::Split {
+            volume: _,
+            floor: _,
+        } => 0,
+        ShowAnswer::NoneYet { floor } => put_none(out, cap, tries, floor),
+        ShowAnswer::Refused(word, place) => put_refused(out, word, place),
+    }
+}
+
+// Shows a search and prints what it shows: the split, or "none yet".
+pub fn put_search(
+    search: Search,
+    m: u64,
+    n: u64,
+    nonzeros: u64,
+    list: &[u8],
+    out: &mut [u8],
+) -> usize
+    ensures { λ r. ⌜ Puts (now (out .entry)) 0 (searchText search m n nonzeros (now (list .entry)) (now (out .entry))) (now (out .exit)) r ⌝ }
+{
+    let mut parts = [0u8; 2000];
+    let shown = search::show(search, m, n, nonzeros, list, &mut parts);
+    let ShowAnswer::Split { volume, floor } = shown else {
+        return put_line(shown, search.cap, search.tries, out);
+    };
+    put_split(m, n, nonzeros, list, &parts, search, volume, floor, out)
+}
+
+// Runs a search and prints what it shows.
+pub fn put_run(
+    search: Search,
+    m: u64,
+    n: u64,
+    nonzeros: u64,
+    list: &[u8],
+    budget: u64,
+    out: &mut [u8],
+) -> usize
+    ensures { λ r. ⌜ Puts (now (out .entry)) 0 (ranText (runCall search m n nonzeros (now (list .entry)) budget) m n nonzeros (now (list .entry)) (now (out .entry))) (now (out .exit)) r ⌝ }
+{
+    let ran = search::run(search, m, n, nonzeros, list, budget);
+    let answer = ran.answer;
+    let after = ran.search;
+    match answer {
+        RunAnswer::Complete => put_search(after, m, n, nonzeros, list, out),
+        RunAnswer::Stopped => put_search(after, m, n, nonzeros, list, out),
+        RunAnswer::Refused(word, place) => put_refused(out, word, place),
+    }
+}
+
+// Opens a search, runs it and prints what it shows.
+pub fn put_opening(
+    m: u64,
+    n: u64,
+    nonzeros: u64,
+    list: &[u8],
+    cap: u64,
+    budget: u64,
+    out: &mut [u8],
+) -> usize
+    ensures { λ r. ⌜ Puts (now (out .entry)) 0 (openedText (openCall m n nonzeros (now (list .entry)) cap) m n nonzeros (now (list .entry)) budget (now (out .entry))) (now (out .exit)) r ⌝ }
+{
+    let opened = search::open(m, n, nonzeros, list, cap);
+    let verdict = opened.verdict;
+    let fresh = opened.search;
+    match verdict {
+        Verdict::Accepted => put_run(fresh, m, n, nonzeros, list, budget, out),
+        Verdict::Refused(word, place) => put_refused(out, word, place),
+    }
+}
+
+// Splits a pattern under a percentage and prints the answer.
+pub fn put_pattern(
+    m: u64,
+    n: u64,
+    nonzeros: u64,
+    list: &[u8],
+    percent: u64,
+    budget: u64,
+    out: &mut [u8],
+) -> usize
+    ensures { λ r. ⌜ Puts (now (out .entry)) 0 (afterCap (capCall nonzeros percent) m n nonzeros (now (list .entry)) budget (now (out .entry))) (now (out .exit)) r ⌝ }
+{
+    let capped = cap_from_percent(nonzeros, percent);
+    match capped {
+        CapAnswer::Capped(cap) => put_opening(m, n, nonzeros, list, cap, budget, out),
+        CapAnswer::Refused(word, place) => put_refused(out, word, place),
+    }
+}
+
+// Reads a text, splits its pattern and prints the answer.
+pub fn put_text(text: &[u8], percent: u64, budget: u64, out: &mut [u8]) -> usize
+    ensures { λ r. ⌜ Puts (now (out .entry)) 0 (patternText (now (text .entry)) percent budget (now (out .entry))) (now (out .exit)) r ⌝ }
+{
+    let mut list = [0u8; 4000];
+    let mut parts = [0u8; 2000];
+    let read = read(text, &mut list, &mut parts);
+    match read {
+        ReadAnswer::Read {
+            m,
+            n,
+            nonzeros,
+            integer: _,
+        } => put_pattern(m, n, nonzeros, &list, percent, budget, out),
+        ReadAnswer::Refused(word, place) => put_refused(out, word, place),
+    }
+}
+
+// Writes the answer to an input, and gives its length; what falls past the end of the output is left out.
+pub fn answer(input: &[u8], out: &mut [u8]) -> usize
+    ensures { λ r. ⌜ Puts (now (out .entry)) 0 (answerText (now (input .entry)) (now (out .entry))) (now (out .exit)) r ⌝ }
+{
+    let order = order_of(input);
+    let next = order.next;
+    let len = input.len();
+    if !order.fine {
+        return put_refused(out, Word::EntryForm, 0);
+    }
+    if len < next {
+        return put_refused(out, Word::EntryForm, 0);
+    }
+    let text = &input[next..len];
+    put_text(text, order.percent as u64, order.budget as u64, out)
+}
