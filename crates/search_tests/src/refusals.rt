@@ -1,0 +1,152 @@
+// Each refusal's number and place, for an opening, a run and a showing, and which of two refusals counts.
+use crate::comparing::put_same;
+use crate::given::Given;
+use crate::given::given_by;
+use crate::going::after;
+use crate::going::fresh;
+use crate::going::piece;
+use crate::saying::put;
+use crate::saying::put_marks;
+use crate::saying::put_opened;
+use crate::saying::put_run;
+use crate::saying::put_show;
+use crate::saying::put_verdict;
+use model::Search;
+
+// A search of the 3 by 3 diagonal under cap 2.
+fn diagonal() -> Search {
+    let given = given_by(3, 3, 3, 2, b"0,0 1,1 2,2");
+    after(fresh(given), given, 4)
+}
+
+// What an opening, a run and a showing answer to a list.
+fn list_of(words: &[u8], m: u64, n: u64, nonzeros: u64, list: &[u8]) {
+    let search = diagonal();
+    let opened = search::open(m, n, nonzeros, list, 2);
+    put(words);
+    put(b": open");
+    let verdict = opened.verdict;
+    put_verdict(verdict);
+    let ran = search::run(search, m, n, nonzeros, list, 1);
+    let next = ran.search;
+    put(b", run");
+    let answer = ran.answer;
+    put_run(answer);
+    put_same(search, next);
+    let mut parts = [9u8; 4];
+    let answer = search::show(search, m, n, nonzeros, list, &mut parts);
+    put(b", show");
+    put_show(answer, &parts, 3);
+    put(b" parts ");
+    put_marks(&parts, 4);
+    put(b"\n");
+}
+
+// 4 and 9.
+fn sizes() {
+    list_of(b"no rows", 0, 3, 3, &[0u8, 0, 1, 1, 2, 2]);
+    list_of(b"no columns", 3, 0, 3, &[0u8, 0, 1, 1, 2, 2]);
+    list_of(b"too many rows", 121, 3, 3, &[0u8, 0, 1, 1, 2, 2]);
+    list_of(b"too many columns", 3, 121, 3, &[0u8, 0, 1, 1, 2, 2]);
+    list_of(b"too many nonzeros", 120, 120, 2_001, &[0u8, 0, 1, 1, 2, 2]);
+    list_of(b"more nonzeros than cells", 3, 3, 10, &[0u8, 0, 1, 1, 2, 2]);
+    list_of(b"short list", 3, 3, 3, &[0u8, 0, 1, 1, 2]);
+    list_of(b"empty list", 3, 3, 3, b"");
+    list_of(b"short list and off matrix", 3, 3, 3, &[9u8, 9, 1, 1, 2]);
+}
+
+// 5 and 10.
+fn entries() {
+    list_of(b"row off", 3, 3, 3, &[0u8, 0, 3, 1, 2, 2]);
+    list_of(b"column off", 3, 3, 3, &[0u8, 0, 1, 1, 2, 3]);
+    list_of(b"row and column off", 3, 3, 3, &[200u8, 200, 1, 1, 2, 2]);
+    list_of(b"repeated", 3, 3, 3, &[0u8, 0, 0, 0, 2, 2]);
+    list_of(b"falling row", 3, 3, 3, &[0u8, 0, 1, 1, 0, 2]);
+    list_of(b"falling column", 3, 3, 3, &[0u8, 1, 0, 0, 2, 2]);
+    list_of(b"off and falling", 3, 3, 3, &[0u8, 0, 1, 1, 0, 3]);
+    list_of(b"falling, then off", 3, 3, 3, &[1u8, 0, 0, 1, 2, 3]);
+    list_of(b"off, then falling", 3, 3, 3, &[0u8, 3, 0, 1, 0, 0]);
+    list_of(
+        b"bytes past the last nonzero",
+        3,
+        3,
+        3,
+        &[0u8, 0, 1, 1, 2, 2, 0, 0],
+    );
+}
+
+// 11 and 12, after the list.
+fn caps() {
+    put_opened(3, 3, 3, 2_001, &[0u8, 0, 1, 1, 2, 2]);
+    put_opened(3, 3, 3, 1, &[0u8, 0, 1, 1, 2, 2]);
+    put_opened(3, 3, 3, 2, &[0u8, 0, 1, 1, 2, 2]);
+    put_opened(3, 3, 3, 2_001, &[0u8, 0, 1, 1, 1, 1]);
+    put_opened(3, 3, 3, 1, &[0u8, 0, 1, 1, 1, 1]);
+    put_opened(3, 3, 3, 18_446_744_073_709_551_615, &[0u8, 0, 1, 1, 2, 2]);
+}
+
+// 13, and 14 before it.
+fn budgets(given: Given) {
+    let mut s = diagonal();
+    s.tries = 999_999_999_999_995;
+    piece(s, given, 6);
+    piece(s, given, 18_446_744_073_709_551_615);
+    piece(s, given, 5);
+    s.tries = 1_000_000_000_000_001;
+    piece(s, given, 1_000_001);
+    let done = after(diagonal(), given, 1_000);
+    piece(done, given, 1_000_001);
+}
+
+// What a showing answers with this many bytes of parts, and the parts after it.
+fn shows(words: &[u8], search: Search, given: Given, parts: &mut [u8]) {
+    let list = given.list;
+    let answer = search::show(search, given.m, given.n, given.nonzeros, &list, parts);
+    put(words);
+    put(b":");
+    put_show(answer, parts, 3);
+    put(b" parts ");
+    put_marks(parts, parts.len());
+    put(b"\n");
+}
+
+// 9 for the parts, and 14 before it.
+fn parts(given: Given) {
+    let mut short = [9u8; 2];
+    let fresh = fresh(given);
+    let done = after(fresh, given, 1_000);
+    shows(b"short parts, none yet", fresh, given, &mut short);
+    shows(b"short parts, complete", done, given, &mut short);
+    shows(b"no parts", done, given, &mut []);
+    let mut bad = done;
+    bad.tries = 1_000_000_000_000_001;
+    shows(b"short parts, no state", bad, given, &mut short);
+}
+
+// Bytes past the parts stay, and all stay on a refusal and at "none yet".
+fn buffers(given: Given) {
+    let mut long = [9u8; 8];
+    let fresh = fresh(given);
+    let done = after(fresh, given, 1_000);
+    shows(b"long parts, none yet", fresh, given, &mut long);
+    shows(b"long parts, complete", done, given, &mut long);
+    shows(
+        b"parts of an earlier showing, none yet",
+        fresh,
+        given,
+        &mut long,
+    );
+    let mut exact = [9u8; 3];
+    shows(b"as many parts as nonzeros", done, given, &mut exact);
+}
+
+// Every refusal in turn.
+pub fn all() {
+    let given = given_by(3, 3, 3, 2, b"0,0 1,1 2,2");
+    sizes();
+    entries();
+    caps();
+    budgets(given);
+    parts(given);
+    buffers(given);
+}
