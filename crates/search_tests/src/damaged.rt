@@ -153,8 +153,8 @@ fn odd(words: &[u8], search: Search, given: Given) {
     put_search(after(search, given, 0), given);
 }
 
-// A trail that is itself invalid, a best marking that starts with 1, marks past the lengths, tries of 10^15.
-fn odd_states(search: Search, given: Given) {
+// A trail that is itself invalid, and a best marking that starts with 1.
+fn odd_marks(search: Search, given: Given) {
     odd(
         b"trail that is invalid itself",
         with_trail(search, b"00"),
@@ -165,6 +165,10 @@ fn odd_states(search: Search, given: Given) {
         with_best(search, b"c1010"),
         given,
     );
+}
+
+// Marks past the lengths, which a run of 0 tries clears.
+fn odd_bytes(search: Search, given: Given) {
     let mut best = trail_of(b"c01011313c1");
     best.len = 5;
     let mut trail = trail_of(b"c010c3333311");
@@ -175,6 +179,10 @@ fn odd_states(search: Search, given: Given) {
     put(b"marks past the lengths:");
     put_same(search, after(s, given, 0));
     put(b"\n");
+}
+
+// The greatest number of tries, after which a try more is refused.
+fn most_tries(search: Search, given: Given) {
     let mut s = search;
     s.tries = 1_000_000_000_000_000;
     tries(b"tries of 10^15", s, given);
@@ -202,7 +210,9 @@ pub fn all() {
     marks(search, given);
     bests(search, given);
     without_best(given);
-    odd_states(search, given);
+    odd_marks(search, given);
+    odd_bytes(search, given);
+    most_tries(search, given);
     all_cut();
     put(b"\n");
 }

@@ -7,15 +7,19 @@ use crate::saying::put_numbers;
 use crate::saying::put_opened;
 use crate::saying::put_show;
 
-// Row 120 and column 120, 121 rows and 121 columns, none.
-fn lines() {
+// Row 120, 121 rows, and no row.
+fn rows() {
     put_opened(120, 1, 1, 1, &[119u8, 0]);
     put_opened(121, 1, 1, 1, &[119u8, 0]);
     put_opened(120, 1, 1, 1, &[120u8, 0]);
+    put_opened(0, 1, 0, 1, &[0u8, 0]);
+}
+
+// Column 120, 121 columns, and no column.
+fn columns() {
     put_opened(1, 120, 1, 1, &[0u8, 119]);
     put_opened(1, 121, 1, 1, &[0u8, 119]);
     put_opened(1, 120, 1, 1, &[0u8, 120]);
-    put_opened(0, 1, 0, 1, &[0u8, 0]);
     put_opened(1, 0, 0, 1, &[0u8, 0]);
 }
 
@@ -70,7 +74,8 @@ fn budgets() {
 
 // Every limit in turn.
 pub fn all() {
-    lines();
+    rows();
+    columns();
     nonzeros();
     long_search();
     budgets();

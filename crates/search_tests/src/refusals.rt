@@ -19,22 +19,29 @@ fn diagonal() -> Search {
     after(fresh(given), given, 4)
 }
 
-// What an opening, a run and a showing answer to a list.
-fn list_of(words: &[u8], m: u64, n: u64, nonzeros: u64, list: &[u8]) {
-    let search = diagonal();
+// What an opening answers to a list.
+fn opens_on(m: u64, n: u64, nonzeros: u64, list: &[u8]) {
     let opened = search::open(m, n, nonzeros, list, 2);
-    put(words);
-    put(b": open");
     let verdict = opened.verdict;
+    put(b": open");
     put_verdict(verdict);
+}
+
+// What a run answers to a list.
+fn runs_on(m: u64, n: u64, nonzeros: u64, list: &[u8]) {
+    let search = diagonal();
     let ran = search::run(search, m, n, nonzeros, list, 1);
+    let answer = ran.answer;
     let next = ran.search;
     put(b", run");
-    let answer = ran.answer;
     put_run(answer);
     put_same(search, next);
+}
+
+// What a showing answers to a list.
+fn shows_on(m: u64, n: u64, nonzeros: u64, list: &[u8]) {
     let mut parts = [9u8; 4];
-    let answer = search::show(search, m, n, nonzeros, list, &mut parts);
+    let answer = search::show(diagonal(), m, n, nonzeros, list, &mut parts);
     put(b", show");
     put_show(answer, &parts, 3);
     put(b" parts ");
@@ -42,44 +49,72 @@ fn list_of(words: &[u8], m: u64, n: u64, nonzeros: u64, list: &[u8]) {
     put(b"\n");
 }
 
-// 4 and 9.
+// What an opening, a run and a showing answer to a list.
+fn list_of(words: &[u8], m: u64, n: u64, nonzeros: u64, list: &[u8]) {
+    put(words);
+    opens_on(m, n, nonzeros, list);
+    runs_on(m, n, nonzeros, list);
+    shows_on(m, n, nonzeros, list);
+}
+
+// 4: the numbers alone, on the list of the diagonal.
+fn numbers(words: &[u8], m: u64, n: u64, nonzeros: u64) {
+    list_of(words, m, n, nonzeros, &[0u8, 0, 1, 1, 2, 2]);
+}
+
+// 4.
 fn sizes() {
-    list_of(b"no rows", 0, 3, 3, &[0u8, 0, 1, 1, 2, 2]);
-    list_of(b"no columns", 3, 0, 3, &[0u8, 0, 1, 1, 2, 2]);
-    list_of(b"too many rows", 121, 3, 3, &[0u8, 0, 1, 1, 2, 2]);
-    list_of(b"too many columns", 3, 121, 3, &[0u8, 0, 1, 1, 2, 2]);
-    list_of(b"too many nonzeros", 120, 120, 2_001, &[0u8, 0, 1, 1, 2, 2]);
-    list_of(b"more nonzeros than cells", 3, 3, 10, &[0u8, 0, 1, 1, 2, 2]);
-    list_of(b"short list", 3, 3, 3, &[0u8, 0, 1, 1, 2]);
-    list_of(b"empty list", 3, 3, 3, b"");
-    list_of(b"short list and off matrix", 3, 3, 3, &[9u8, 9, 1, 1, 2]);
+    numbers(b"no rows", 0, 3, 3);
+    numbers(b"no columns", 3, 0, 3);
+    numbers(b"too many rows", 121, 3, 3);
+    numbers(b"too many columns", 3, 121, 3);
+    numbers(b"too many nonzeros", 120, 120, 2_001);
+    numbers(b"more nonzeros than cells", 3, 3, 10);
 }
 
-// 5 and 10.
-fn entries() {
-    list_of(b"row off", 3, 3, 3, &[0u8, 0, 3, 1, 2, 2]);
-    list_of(b"column off", 3, 3, 3, &[0u8, 0, 1, 1, 2, 3]);
-    list_of(b"row and column off", 3, 3, 3, &[200u8, 200, 1, 1, 2, 2]);
-    list_of(b"repeated", 3, 3, 3, &[0u8, 0, 0, 0, 2, 2]);
-    list_of(b"falling row", 3, 3, 3, &[0u8, 0, 1, 1, 0, 2]);
-    list_of(b"falling column", 3, 3, 3, &[0u8, 1, 0, 0, 2, 2]);
-    list_of(b"off and falling", 3, 3, 3, &[0u8, 0, 1, 1, 0, 3]);
-    list_of(b"falling, then off", 3, 3, 3, &[1u8, 0, 0, 1, 2, 3]);
-    list_of(b"off, then falling", 3, 3, 3, &[0u8, 3, 0, 1, 0, 0]);
-    list_of(
-        b"bytes past the last nonzero",
-        3,
-        3,
-        3,
-        &[0u8, 0, 1, 1, 2, 2, 0, 0],
-    );
+// What they answer to a list of three nonzeros, 3 by 3.
+fn three(words: &[u8], list: &[u8]) {
+    list_of(words, 3, 3, 3, list);
 }
 
-// 11 and 12, after the list.
+// 9.
+fn short_lists() {
+    three(b"short list", &[0u8, 0, 1, 1, 2]);
+    three(b"empty list", b"");
+    three(b"short list and off matrix", &[9u8, 9, 1, 1, 2]);
+}
+
+// 5.
+fn off_matrix() {
+    three(b"row off", &[0u8, 0, 3, 1, 2, 2]);
+    three(b"column off", &[0u8, 0, 1, 1, 2, 3]);
+    three(b"row and column off", &[200u8, 200, 1, 1, 2, 2]);
+}
+
+// 10.
+fn order() {
+    three(b"repeated", &[0u8, 0, 0, 0, 2, 2]);
+    three(b"falling row", &[0u8, 0, 1, 1, 0, 2]);
+    three(b"falling column", &[0u8, 1, 0, 0, 2, 2]);
+}
+
+// 5 and 10, the first nonzero first, and a list with more bytes than its nonzeros have.
+fn first_counts() {
+    three(b"off and falling", &[0u8, 0, 1, 1, 0, 3]);
+    three(b"falling, then off", &[1u8, 0, 0, 1, 2, 3]);
+    three(b"off, then falling", &[0u8, 3, 0, 1, 0, 0]);
+    three(b"bytes past the last nonzero", &[0u8, 0, 1, 1, 2, 2, 0, 0]);
+}
+
+// 11 and 12.
 fn caps() {
     put_opened(3, 3, 3, 2_001, &[0u8, 0, 1, 1, 2, 2]);
     put_opened(3, 3, 3, 1, &[0u8, 0, 1, 1, 2, 2]);
     put_opened(3, 3, 3, 2, &[0u8, 0, 1, 1, 2, 2]);
+}
+
+// 11 and 12 after the list, and the greatest cap that a call can give.
+fn late_caps() {
     put_opened(3, 3, 3, 2_001, &[0u8, 0, 1, 1, 1, 1]);
     put_opened(3, 3, 3, 1, &[0u8, 0, 1, 1, 1, 1]);
     put_opened(3, 3, 3, 18_446_744_073_709_551_615, &[0u8, 0, 1, 1, 2, 2]);
@@ -144,8 +179,12 @@ fn buffers(given: Given) {
 pub fn all() {
     let given = given_by(3, 3, 3, 2, b"0,0 1,1 2,2");
     sizes();
-    entries();
+    short_lists();
+    off_matrix();
+    order();
+    first_counts();
     caps();
+    late_caps();
     budgets(given);
     parts(given);
     buffers(given);
