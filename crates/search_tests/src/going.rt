@@ -1,0 +1,33 @@
+// Opening a search and running it piece by piece.
+use crate::given::Given;
+use crate::saying::put;
+use crate::saying::put_run;
+use crate::saying::say;
+use model::Search;
+
+// A fresh search.
+pub fn fresh(given: Given) -> Search {
+    let list = given.list;
+    let opened = search::open(given.m, given.n, given.nonzeros, &list, given.cap);
+    opened.search
+}
+
+// The search after a run.
+pub fn after(search: Search, given: Given, budget: u64) -> Search {
+    let list = given.list;
+    let ran = search::run(search, given.m, given.n, given.nonzeros, &list, budget);
+    ran.search
+}
+
+// The search after a run, whose answer is printed.
+pub fn piece(search: Search, given: Given, budget: u64) -> Search {
+    let list = given.list;
+    let ran = search::run(search, given.m, given.n, given.nonzeros, &list, budget);
+    let next = ran.search;
+    say(b"  run ", budget);
+    let answer = ran.answer;
+    put_run(answer);
+    say(b" tries ", next.tries);
+    put(b"\n");
+    next
+}

@@ -1,0 +1,62 @@
+// The sample patterns of document 01, and the least patterns on which a shortcut gives a false minimum.
+use crate::saying::put;
+use crate::saying::put_opened;
+use crate::saying::put_refused;
+use crate::saying::say;
+use crate::walks::walk_of;
+use model::CapAnswer;
+use pattern::cap::cap_from_percent;
+
+// The cap from a percentage.
+fn cap_of(nonzeros: u64, percent: u64) {
+    let answer = cap_from_percent(nonzeros, percent);
+    say(b"cap from ", nonzeros);
+    say(b" at ", percent);
+    put(b" percent");
+    match answer {
+        CapAnswer::Capped(cap) => say(b" ", cap),
+        CapAnswer::Refused(word, place) => put_refused(word, place),
+    }
+    put(b"\n");
+}
+
+// Caps from percentages.
+fn caps() {
+    cap_of(4, 0);
+    cap_of(233, 3);
+    cap_of(1, 0);
+    cap_of(2_000, 100);
+    cap_of(2_001, 100);
+    cap_of(2_000, 101);
+    cap_of(2_001, 101);
+    put(b"\n");
+}
+
+// One nonzero, the diagonal, full patterns and a pattern without nonzeros.
+fn patterns() {
+    walk_of(1, 1, 1, 1, b"0,0");
+    put_opened(1, 1, 1, 0, &[0u8, 0]);
+    put(b"\n");
+    walk_of(2, 2, 2, 1, b"0,0 1,1");
+    walk_of(2, 2, 4, 2, b"0,0 0,1 1,0 1,1");
+    walk_of(1, 3, 3, 2, b"0,0 0,1 0,2");
+    put_opened(1, 3, 3, 1, &[0u8, 0, 0, 1, 0, 2]);
+    put(b"\n");
+    walk_of(2, 3, 0, 0, b"");
+}
+
+// Where a shortcut finds 2, 3, 3 or none: a nonzero of two leaning lines counted twice, L3 added to L4, free nonzeros held against
+// one part, the first line never cut.
+fn shortcuts() {
+    walk_of(3, 4, 8, 7, b"0,2 0,3 1,1 1,2 1,3 2,0 2,2 2,3");
+    walk_of(4, 4, 9, 5, b"0,2 1,2 1,3 2,1 2,2 2,3 3,0 3,1 3,3");
+    walk_of(3, 3, 6, 3, b"0,2 1,0 1,1 2,0 2,1 2,2");
+    walk_of(1, 2, 2, 1, b"0,0 0,1");
+}
+
+// Every sample in turn.
+pub fn all() {
+    caps();
+    patterns();
+    shortcuts();
+}
