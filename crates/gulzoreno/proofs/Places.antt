@@ -43,6 +43,22 @@ number-small NoSplit = omega arith
 number-small Budget = omega arith
 number-small State = omega arith
 
+pub number-some : (word : Word) → 1 ≤ refusalNumber word
+number-some Banner = omega arith
+number-some SizeLine = omega arith
+number-some EntryForm = omega arith
+number-some TooBig = omega arith
+number-some OffMatrix = omega arith
+number-some Repeated = omega arith
+number-some Count = omega arith
+number-some BadPart = omega arith
+number-some ShortBuffer = omega arith
+number-some Order = omega arith
+number-some Cap = omega arith
+number-some NoSplit = omega arith
+number-some Budget = omega arith
+number-some State = omega arith
+
 -- where this verdict refuses, the place is at most a limit
 abbrev PlaceTo : ℕ → Verdict → Type 0
 PlaceTo limit Accepted = Unit {0}
