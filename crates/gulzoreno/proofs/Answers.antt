@@ -18,7 +18,7 @@ use Rattle.model.specs.declared.ShowAnswer.the-variants as show-answer
 use Rattle.model.specs.Refusal.{refusalCode, _then_}
 use Rattle.model.specs.Calls.{openVerdict, openCall, runCall, showCall, showParts, showCode}
 use Rattle.gulzoreno.specs.Figures.{withFigures}
-use Rattle.gulzoreno.specs.Host.{outputVerdict, hostVerdict, hostSearch, codeAfter, partsAfter, figuresShown, figuresAfter, bipartitionCode, bipartitionParts, bipartitionFigures}
+use Rattle.gulzoreno.specs.Host.{outputVerdict, hostVerdict, hostSearch, hostCodeAfter, hostPartsAfter, figuresShown, hostFiguresAfter, bipartitionCode, bipartitionParts, bipartitionFigures}
 
 -- an answer with the second tag is "none yet"
 none-code : (a : ShowAnswer) → tagOf (declared enum) a ≡ 1 → 255 ≡ showCode a
@@ -109,28 +109,28 @@ module _
         (r : ℕ) →
         r ≡ showCode (showCall (runCall (opened .search) m n nonzeros list budget .search) m n nonzeros list parts) →
         r ≡ bipartitionCode m n nonzeros list cap budget parts figures
-    unfolding bipartitionCode codeAfter hostSearch
+    unfolding bipartitionCode hostCodeAfter hostSearch
     accepted-code r h =
         h
         ∙ ap
         (λ (o : Opened). showCode (showCall (runCall (o .search) m n nonzeros list budget .search) m n nonzeros list parts))
         is-opened
         ∙ ap
-        (λ (v : Verdict). codeAfter v (showCall (hostSearch m n nonzeros list cap budget) m n nonzeros list parts))
+        (λ (v : Verdict). hostCodeAfter v (showCall (hostSearch m n nonzeros list cap budget) m n nonzeros list parts))
         (sym passed)
 
     pub accepted-parts :
         (new : List ℕ) →
         new ≡ showParts (runCall (opened .search) m n nonzeros list budget .search) m n nonzeros list parts →
         new ≡ bipartitionParts m n nonzeros list cap budget parts figures
-    unfolding bipartitionParts partsAfter hostSearch
+    unfolding bipartitionParts hostPartsAfter hostSearch
     accepted-parts new h =
         h
         ∙ ap
         (λ (o : Opened). showParts (runCall (o .search) m n nonzeros list budget .search) m n nonzeros list parts)
         is-opened
         ∙ ap
-        (λ (v : Verdict). partsAfter v (showParts (hostSearch m n nonzeros list cap budget) m n nonzeros list parts) parts)
+        (λ (v : Verdict). hostPartsAfter v (showParts (hostSearch m n nonzeros list cap budget) m n nonzeros list parts) parts)
         (sym passed)
 
     pub accepted-figures :
@@ -141,7 +141,7 @@ module _
         (runCall (opened .search) m n nonzeros list budget .search)
         figures →
         new ≡ bipartitionFigures m n nonzeros list cap budget parts figures
-    unfolding bipartitionFigures figuresAfter hostSearch
+    unfolding bipartitionFigures hostFiguresAfter hostSearch
     accepted-figures new h =
         h
         ∙ ap
@@ -153,7 +153,7 @@ module _
         is-opened
         ∙ ap
         (λ (v : Verdict).
-        figuresAfter
+        hostFiguresAfter
         v
         (showCall (hostSearch m n nonzeros list cap budget) m n nonzeros list parts)
         (hostSearch m n nonzeros list cap budget)
@@ -166,26 +166,26 @@ module _
     stopped = sym verdict-is ∙ e
 
     pub stopped-code : (r : ℕ) → r ≡ refusalCode word place → r ≡ bipartitionCode m n nonzeros list cap budget parts figures
-    unfolding bipartitionCode codeAfter
+    unfolding bipartitionCode hostCodeAfter
     stopped-code r h =
         h
         ∙ ap
-        (λ (v : Verdict). codeAfter v (showCall (hostSearch m n nonzeros list cap budget) m n nonzeros list parts))
+        (λ (v : Verdict). hostCodeAfter v (showCall (hostSearch m n nonzeros list cap budget) m n nonzeros list parts))
         (sym stopped)
 
     pub stopped-parts : parts ≡ bipartitionParts m n nonzeros list cap budget parts figures
-    unfolding bipartitionParts partsAfter
+    unfolding bipartitionParts hostPartsAfter
     stopped-parts =
         ap
-        (λ (v : Verdict). partsAfter v (showParts (hostSearch m n nonzeros list cap budget) m n nonzeros list parts) parts)
+        (λ (v : Verdict). hostPartsAfter v (showParts (hostSearch m n nonzeros list cap budget) m n nonzeros list parts) parts)
         (sym stopped)
 
     pub stopped-figures : figures ≡ bipartitionFigures m n nonzeros list cap budget parts figures
-    unfolding bipartitionFigures figuresAfter
+    unfolding bipartitionFigures hostFiguresAfter
     stopped-figures =
         ap
         (λ (v : Verdict).
-        figuresAfter
+        hostFiguresAfter
         v
         (showCall (hostSearch m n nonzeros list cap budget) m n nonzeros list parts)
         (hostSearch m n nonzeros list cap budget)

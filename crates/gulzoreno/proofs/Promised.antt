@@ -29,15 +29,15 @@ use Rattle.showing.proofs.Same as same
 use Rattle.search.specs.History.{Demand}
 use Rattle.search.proofs.Splits.{size-is}
 use Rattle.gulzoreno.specs.Figures.{figuresBytes, withFigures}
-use Rattle.gulzoreno.specs.Host.{hostVerdict, hostSearch, codeAfter, figuresShown, bipartitionCode, bipartitionParts, bipartitionFigures}
+use Rattle.gulzoreno.specs.Host.{hostVerdict, hostSearch, hostCodeAfter, figuresShown, bipartitionCode, bipartitionParts, bipartitionFigures}
 use Rattle.gulzoreno.specs.Promise.{figureIn, Promise}
 use Rattle.gulzoreno.proofs.Places.{number-some}
 use Rattle.gulzoreno.proofs.Walked.{listed, parts-long, figures-long, at-end, code-is, parts-are, figures-are}
 use Rattle.gulzoreno.proofs.Reading as reading
 
 -- answer 0 is no refusal
-code-accepted : (v : Verdict) (a : ShowAnswer) → codeAfter v a ≡ 0 → v ≡ Accepted
-unfolding codeAfter refusalCode
+code-accepted : (v : Verdict) (a : ShowAnswer) → hostCodeAfter v a ≡ 0 → v ≡ Accepted
+unfolding hostCodeAfter refusalCode
 code-accepted Accepted a h = refl
 code-accepted (Refused word place) a h = no-way (omega (arith, number-some word))
 

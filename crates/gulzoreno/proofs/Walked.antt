@@ -22,8 +22,7 @@ use Rattle.model.specs.Refusal.{refuse, _then_}
 use Rattle.model.specs.Pattern.{Pattern, patternOf, lineTotal}
 use Rattle.model.specs.Walk.{Record, rulesOf, freshOf, walk, walked, floor}
 use Rattle.model.specs.State.{searchOf, stateFine}
-use Rattle.model.specs.Calls.{listVerdict, openVerdict, runVerdict, showVerdict, openCall, ended, ranAfter, runCall, shown, shownParts, shownAfter, showCall, showParts, showCode}
-use Rattle.model.specs.Calls as calls
+use Rattle.model.specs.Calls.{listVerdict, openVerdict, runVerdict, showVerdict, openCall, ended, ranAfter, runCall, shown, shownParts, shownAfter, partsAfter, showCall, showParts, showCode}
 use Rattle.model.proofs.Walk.Reached.{walk-for}
 use Rattle.model.proofs.Walk.Ending.{fresh-tries}
 use Rattle.model.proofs.Theorems.Accepted.{open-accepted, then-first, then-second, refuse-not, refuse-no}
@@ -31,7 +30,7 @@ use Rattle.pattern.proofs.Verdicts.{then-accepted}
 use Rattle.search.specs.History.{acceptedBudget, History, opened, ran, Demand}
 use Rattle.search.proofs.Demand3.{demand-3}
 use Rattle.gulzoreno.specs.Figures.{figuresBytes}
-use Rattle.gulzoreno.specs.Host.{outputVerdict, hostVerdict, hostSearch, codeAfter, partsAfter, figuresShown, figuresAfter, bipartitionCode, bipartitionParts, bipartitionFigures}
+use Rattle.gulzoreno.specs.Host.{outputVerdict, hostVerdict, hostSearch, hostCodeAfter, hostPartsAfter, figuresShown, hostFiguresAfter, bipartitionCode, bipartitionParts, bipartitionFigures}
 
 -- an accepted run's budget counts
 ended-budget : (done : Bool) (budget : ℕ) → acceptedBudget (ended done) budget ≡ budget
@@ -172,37 +171,37 @@ module _
   parts-walk :
       showParts (hostSearch m n nonzeros list cap budget) m n nonzeros list parts
       ≡ shownParts P cap (after budget .best) parts
-  unfolding calls.partsAfter
+  unfolding partsAfter
   parts-walk =
       at-end .parts-are parts
-      ∙ ap (λ (v : Verdict). calls.partsAfter v (after budget) P parts) shows
+      ∙ ap (λ (v : Verdict). partsAfter v (after budget) P parts) shows
       ∙ ap (λ (c : ℕ). shownParts P c (after budget .best) parts) (cap-kept budget)
 
   -- the answer, the parts and the figures
   pub code-is : bipartitionCode m n nonzeros list cap budget parts figures ≡ showCode Shown
-  unfolding bipartitionCode codeAfter
+  unfolding bipartitionCode hostCodeAfter
   code-is =
       ap
-      (λ (v : Verdict). codeAfter v (showCall (hostSearch m n nonzeros list cap budget) m n nonzeros list parts))
+      (λ (v : Verdict). hostCodeAfter v (showCall (hostSearch m n nonzeros list cap budget) m n nonzeros list parts))
       accepted
       ∙ ap showCode shown-walks
 
   pub parts-are : bipartitionParts m n nonzeros list cap budget parts figures ≡ shownParts P cap (after budget .best) parts
-  unfolding bipartitionParts partsAfter
+  unfolding bipartitionParts hostPartsAfter
   parts-are =
       ap
-      (λ (v : Verdict). partsAfter v (showParts (hostSearch m n nonzeros list cap budget) m n nonzeros list parts) parts)
+      (λ (v : Verdict). hostPartsAfter v (showParts (hostSearch m n nonzeros list cap budget) m n nonzeros list parts) parts)
       accepted
       ∙ parts-walk
 
   pub figures-are :
       bipartitionFigures m n nonzeros list cap budget parts figures
       ≡ figuresShown Shown (searchOf (after budget)) figures
-  unfolding bipartitionFigures figuresAfter
+  unfolding bipartitionFigures hostFiguresAfter
   figures-are =
       ap
       (λ (v : Verdict).
-      figuresAfter
+      hostFiguresAfter
       v
       (showCall (hostSearch m n nonzeros list cap budget) m n nonzeros list parts)
       (hostSearch m n nonzeros list cap budget)

@@ -33,14 +33,14 @@ hostSearch m n nonzeros list cap budget =
     runCall (openCall m n nonzeros list cap .search) m n nonzeros list budget .search
 
 -- the answer after this verdict, by what is shown: 0, or 255 for "none yet", or a refusal as number + 256 × place
-unfoldable pub codeAfter : Verdict → ShowAnswer → ℕ
-codeAfter Accepted shown = showCode shown
-codeAfter (Refused word place) shown = refusalCode word place
+unfoldable pub hostCodeAfter : Verdict → ShowAnswer → ℕ
+hostCodeAfter Accepted shown = showCode shown
+hostCodeAfter (Refused word place) shown = refusalCode word place
 
 -- the parts after this verdict: as shown, or unchanged on a refusal
-unfoldable pub partsAfter : Verdict → List ℕ → List ℕ → List ℕ
-partsAfter Accepted shown parts = shown
-partsAfter (Refused word place) shown parts = parts
+unfoldable pub hostPartsAfter : Verdict → List ℕ → List ℕ → List ℕ
+hostPartsAfter Accepted shown parts = shown
+hostPartsAfter (Refused word place) shown parts = parts
 
 -- the figures after a showing of this search: written with a split, and unchanged otherwise
 unfoldable pub figuresShown : ShowAnswer → Search → List ℕ → List ℕ
@@ -50,21 +50,21 @@ figuresShown (show-answer.NoneYet floor) s figures = figures
 figuresShown (show-answer.Refused word place) s figures = figures
 
 -- the figures after this verdict: as shown, or unchanged on a refusal
-unfoldable pub figuresAfter : Verdict → ShowAnswer → Search → List ℕ → List ℕ
-figuresAfter Accepted shown s figures = figuresShown shown s figures
-figuresAfter (Refused word place) shown s figures = figures
+unfoldable pub hostFiguresAfter : Verdict → ShowAnswer → Search → List ℕ → List ℕ
+hostFiguresAfter Accepted shown s figures = figuresShown shown s figures
+hostFiguresAfter (Refused word place) shown s figures = figures
 
 -- what the C function answers
 unfoldable pub bipartitionCode : ℕ → ℕ → ℕ → List ℕ → ℕ → ℕ → List ℕ → List ℕ → ℕ
 bipartitionCode m n nonzeros list cap budget parts figures =
-    codeAfter
+    hostCodeAfter
     (hostVerdict m n nonzeros list cap budget parts figures)
     (showCall (hostSearch m n nonzeros list cap budget) m n nonzeros list parts)
 
 -- the parts that it leaves
 unfoldable pub bipartitionParts : ℕ → ℕ → ℕ → List ℕ → ℕ → ℕ → List ℕ → List ℕ → List ℕ
 bipartitionParts m n nonzeros list cap budget parts figures =
-    partsAfter
+    hostPartsAfter
     (hostVerdict m n nonzeros list cap budget parts figures)
     (showParts (hostSearch m n nonzeros list cap budget) m n nonzeros list parts)
     parts
@@ -72,7 +72,7 @@ bipartitionParts m n nonzeros list cap budget parts figures =
 -- the figures that it leaves
 unfoldable pub bipartitionFigures : ℕ → ℕ → ℕ → List ℕ → ℕ → ℕ → List ℕ → List ℕ → List ℕ
 bipartitionFigures m n nonzeros list cap budget parts figures =
-    figuresAfter
+    hostFiguresAfter
     (hostVerdict m n nonzeros list cap budget parts figures)
     (showCall (hostSearch m n nonzeros list cap budget) m n nonzeros list parts)
     (hostSearch m n nonzeros list cap budget)
