@@ -1,0 +1,188 @@
+-- The place of a refusal of a list, an opening or a showing is a nonzero number or 0, and so at most the limit on nonzeros.
+-- Assumes nothing.
+use mathlib.Core.Bool.{Bool, true, false, not}
+use mathlib.Core.List.{List}
+use mathlib.Core.Option.{Option, some, none}
+use mathlib.Core.Path.{_≡_, refl}
+use Prim.Native.Nat.{ℕ, zero, suc, _*_, _≤_}
+use native.Mathlib.Omega.{arith}
+use lib.Dec.{ltb, leb}
+use lib.ListN.{length}
+use Rattle.counting.specs.Tests.{_or_}
+use Rattle.counting.proofs.Joined.{no-way}
+use Rattle.model.specs.declared.Word.{Word}
+use Rattle.model.specs.declared.Word.the-variants.{Banner, SizeLine, EntryForm, TooBig, OffMatrix, Repeated, Count, BadPart, ShortBuffer, Order, Cap, NoSplit, Budget, State}
+use Rattle.model.specs.declared.Verdict.{Verdict}
+use Rattle.model.specs.declared.Verdict.the-variants.{Accepted, Refused}
+use Rattle.model.specs.declared.Search.{Search}
+use Rattle.model.specs.declared.ShowAnswer.the-variants as show-answer
+use Rattle.model.specs.Limits.{nonzeroLimit, capLimit, budgetLimit}
+use Rattle.model.specs.Refusal.{refusalNumber, refuse, _then_}
+use Rattle.model.specs.Pattern.{entryBytes, rowIn, columnIn, patternOf}
+use Rattle.model.specs.Walk.{Record, rulesOf}
+use Rattle.model.specs.State.{recordOf, stateFine}
+use Rattle.model.specs.Calls.{sizesVerdict, rises, entryVerdict, entriesVerdict, listVerdict, openVerdict, showVerdict, shown, shownAfter, showCall}
+use Rattle.pattern.proofs.Verdicts.{then-first, nonzeros-small}
+use Rattle.gulzoreno.specs.Figures.{figuresBytes}
+use Rattle.gulzoreno.specs.Host.{outputVerdict, hostVerdict}
+
+-- the numbers of the table
+pub number-small : (word : Word) → refusalNumber word ≤ 14
+number-small Banner = omega arith
+number-small SizeLine = omega arith
+number-small EntryForm = omega arith
+number-small TooBig = omega arith
+number-small OffMatrix = omega arith
+number-small Repeated = omega arith
+number-small Count = omega arith
+number-small BadPart = omega arith
+number-small ShortBuffer = omega arith
+number-small Order = omega arith
+number-small Cap = omega arith
+number-small NoSplit = omega arith
+number-small Budget = omega arith
+number-small State = omega arith
+
+pub number-some : (word : Word) → 1 ≤ refusalNumber word
+number-some Banner = omega arith
+number-some SizeLine = omega arith
+number-some EntryForm = omega arith
+number-some TooBig = omega arith
+number-some OffMatrix = omega arith
+number-some Repeated = omega arith
+number-some Count = omega arith
+number-some BadPart = omega arith
+number-some ShortBuffer = omega arith
+number-some Order = omega arith
+number-some Cap = omega arith
+number-some NoSplit = omega arith
+number-some Budget = omega arith
+number-some State = omega arith
+
+-- where this verdict refuses, the place is at most a limit
+abbrev PlaceTo : ℕ → Verdict → Type 0
+PlaceTo limit Accepted = Unit {0}
+PlaceTo limit (Refused word place) = place ≤ limit
+
+place-to : (limit : ℕ) (v : Verdict) {word : Word} {place : ℕ} → PlaceTo limit v → v ≡ Refused word place → place ≤ limit
+place-to limit Accepted h e = let z : _≡_ {A = ℕ} 0 1 = cc in no-way (omega arith)
+place-to limit (Refused word place) {place = other} h e = let z : place ≡ other = cc in omega arith
+
+-- one check, and a check after another
+refuse-to : (limit : ℕ) (test : Bool) (word : Word) (place : ℕ) → place ≤ limit → PlaceTo limit (refuse test word place)
+unfolding refuse
+refuse-to limit true word place h = h
+refuse-to limit false word place h = tt
+
+then-to : (limit : ℕ) (v w : Verdict) → PlaceTo limit v → (v ≡ Accepted → PlaceTo limit w) → PlaceTo limit (v then w)
+unfolding _then_
+then-to limit Accepted w a b = b refl
+then-to limit (Refused word place) w a b = a
+
+module _ (m n : ℕ) (list : List ℕ) where
+  entry-to : (t : ℕ) → PlaceTo t (entryVerdict m n list t)
+  unfolding entryVerdict
+  entry-to t =
+      then-to
+      t
+      (refuse (leb m (rowIn list t) or leb n (columnIn list t)) OffMatrix t)
+      (refuse (not (rises list t)) Order t)
+      (refuse-to t (leb m (rowIn list t) or leb n (columnIn list t)) OffMatrix t (omega arith))
+      (λ e. refuse-to t (not (rises list t)) Order t (omega arith))
+
+  entries-to : (size limit : ℕ) → size ≤ limit → PlaceTo limit (entriesVerdict m n list size)
+  unfolding entriesVerdict
+  entries-to zero limit h = tt
+  entries-to (suc t) limit h =
+      then-to
+      limit
+      (entriesVerdict m n list t)
+      (entryVerdict m n list t)
+      (entries-to t limit (omega arith))
+      (λ e. raised-to t limit (entryVerdict m n list t) (omega arith) (entry-to t))
+    where
+      raised-to : (a b : ℕ) (v : Verdict) → a ≤ b → PlaceTo a v → PlaceTo b v
+      raised-to a b Accepted l p = tt
+      raised-to a b (Refused word place) l p = omega arith
+
+module _ (m n nonzeros : ℕ) (list : List ℕ) where
+  sizes-to : PlaceTo nonzeroLimit (sizesVerdict m n nonzeros)
+  unfolding sizesVerdict
+  sizes-to = refuse-to nonzeroLimit _ TooBig 0 (omega arith)
+
+  list-to : PlaceTo nonzeroLimit (listVerdict m n nonzeros list)
+  unfolding listVerdict
+  list-to =
+      then-to
+      nonzeroLimit
+      (sizesVerdict m n nonzeros then refuse (ltb (length list) (entryBytes * nonzeros)) ShortBuffer 0)
+      (entriesVerdict m n list nonzeros)
+      (then-to nonzeroLimit (sizesVerdict m n nonzeros) (refuse (ltb (length list) (entryBytes * nonzeros)) ShortBuffer 0) sizes-to (λ e. refuse-to nonzeroLimit (ltb (length list) (entryBytes * nonzeros)) ShortBuffer 0 (omega arith)))
+      (λ e. entries-to m n list nonzeros nonzeroLimit (nonzeros-small m n nonzeros (then-first (sizesVerdict m n nonzeros) (refuse (ltb (length list) (entryBytes * nonzeros)) ShortBuffer 0) e)))
+
+  -- the C function's checks
+  open-to : (cap : ℕ) → PlaceTo nonzeroLimit (openVerdict m n nonzeros list cap)
+  unfolding openVerdict
+  open-to cap =
+      then-to
+      nonzeroLimit
+      (listVerdict m n nonzeros list then refuse (ltb capLimit cap) Cap 0)
+      (refuse (ltb (2 * cap) nonzeros) NoSplit 0)
+      (then-to nonzeroLimit (listVerdict m n nonzeros list) (refuse (ltb capLimit cap) Cap 0) list-to (λ e. refuse-to nonzeroLimit (ltb capLimit cap) Cap 0 (omega arith)))
+      (λ e. refuse-to nonzeroLimit (ltb (2 * cap) nonzeros) NoSplit 0 (omega arith))
+
+  output-to : (budget : ℕ) (parts figures : List ℕ) → PlaceTo nonzeroLimit (outputVerdict nonzeros budget parts figures)
+  unfolding outputVerdict
+  output-to budget parts figures =
+      then-to
+      nonzeroLimit
+      (refuse (ltb budgetLimit budget) Budget 0)
+      (refuse (ltb (length parts) nonzeros or ltb (length figures) figuresBytes) ShortBuffer 0)
+      (refuse-to nonzeroLimit (ltb budgetLimit budget) Budget 0 (omega arith))
+      (λ e. refuse-to nonzeroLimit (ltb (length parts) nonzeros or ltb (length figures) figuresBytes) ShortBuffer 0 (omega arith))
+
+  pub host-place :
+      (cap budget : ℕ) (parts figures : List ℕ) {word : Word} {place : ℕ} →
+      hostVerdict m n nonzeros list cap budget parts figures ≡ Refused word place → place ≤ nonzeroLimit
+  unfolding hostVerdict
+  host-place cap budget parts figures e =
+      place-to
+      nonzeroLimit
+      (openVerdict m n nonzeros list cap then outputVerdict nonzeros budget parts figures)
+      (then-to nonzeroLimit (openVerdict m n nonzeros list cap) (outputVerdict nonzeros budget parts figures) (open-to cap) (λ f. output-to budget parts figures))
+      e
+
+  -- a showing's checks
+  show-to : (r : Record) (parts : List ℕ) → PlaceTo nonzeroLimit (showVerdict r m n nonzeros list parts)
+  unfolding showVerdict
+  show-to r parts =
+      let fine = stateFine (rulesOf (patternOf m n nonzeros list) (r .cap)) m n nonzeros r in
+      then-to
+      nonzeroLimit
+      (listVerdict m n nonzeros list then refuse (not fine) State 0)
+      (refuse (ltb (length parts) nonzeros) ShortBuffer 0)
+      (then-to nonzeroLimit (listVerdict m n nonzeros list) (refuse (not fine) State 0) list-to (λ e. refuse-to nonzeroLimit (not fine) State 0 (omega arith)))
+      (λ e. refuse-to nonzeroLimit (ltb (length parts) nonzeros) ShortBuffer 0 (omega arith))
+
+  -- an accepted showing answers no refusal
+  given :
+      (cap low : ℕ) (best : Option (List ℕ)) {word : Word} {place : ℕ} →
+      shown (patternOf m n nonzeros list) cap best low ≡ show-answer.Refused word place → place ≤ nonzeroLimit
+  unfolding shown
+  given cap low none e = let z : _≡_ {A = ℕ} 0 1 = cc in no-way (omega arith)
+  given cap low (some best) e = let z : _≡_ {A = ℕ} 0 1 = cc in no-way (omega arith)
+
+  after :
+      (s : Search) (v : Verdict) {word : Word} {place : ℕ} → PlaceTo nonzeroLimit v →
+      shownAfter v (recordOf s) (patternOf m n nonzeros list) ≡ show-answer.Refused word place → place ≤ nonzeroLimit
+  unfolding shownAfter
+  after s Accepted h e = given _ _ (recordOf s .best) e
+  after s (Refused word place) {place = other} h e = let z : place ≡ other = cc in omega arith
+
+  -- a refused showing
+  pub show-place :
+      (s : Search) (parts : List ℕ) {word : Word} {place : ℕ} →
+      showCall s m n nonzeros list parts ≡ show-answer.Refused word place → place ≤ nonzeroLimit
+  unfolding showCall
+  show-place s parts e =
+      after s (showVerdict (recordOf s) m n nonzeros list parts) (show-to (recordOf s) parts) e

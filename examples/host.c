@@ -1,0 +1,127 @@
+/* A host in C: splits the 2 by 2 diagonal and each Matrix Market pattern that is named, at 3 percent, and prints parts, loads
+ * and volume. It counts the cut lines itself, and ends with status 1 if they are not the volume that the function wrote. */
+#include "gulzoreno.h"
+
+#include <stdio.h>
+#include <stdlib.h>
+#include <string.h>
+
+struct pattern {
+    uint64_t m, n, nonzeros;
+    uint8_t list[2 * GULZORENO_MOST_NONZEROS];
+};
+
+/* A figure of eight bytes, lowest first. */
+static uint64_t figure(const uint8_t *figures, size_t at)
+{
+    uint64_t x = 0;
+    for (size_t i = 8; i-- > 0;)
+        x = 256 * x + figures[at + i];
+    return x;
+}
+
+/* The lines with nonzeros in both parts. */
+static unsigned cut_lines(const struct pattern *p, const uint8_t *parts)
+{
+    unsigned char held[2 * GULZORENO_MOST_LINES] = {0}; /* bit 0: nonzeros in part 0; bit 1: in part 1 */
+    unsigned cut = 0;
+    for (uint64_t t = 0; t < p->nonzeros; t++) {
+        held[p->list[2 * t]] |= 1 << parts[t];
+        held[p->m + p->list[2 * t + 1]] |= 1 << parts[t];
+    }
+    for (uint64_t l = 0; l < p->m + p->n; l++)
+        cut += held[l] == 3;
+    return cut;
+}
+
+/* Splits a pattern and prints what comes of it. Answers 0 if the function's volume is the number of cut lines. */
+static int split(const char *name, const struct pattern *p, uint64_t cap, uint64_t budget)
+{
+    uint8_t parts[GULZORENO_MOST_NONZEROS];
+    uint8_t figures[GULZORENO_FIGURES];
+    unsigned load[2] = {0, 0};
+    uint64_t answer = gulzoreno_bipartition(p->m, p->n, p->nonzeros, p->list, sizeof p->list, cap, budget,
+                                            parts, sizeof parts, figures, sizeof figures);
+
+    printf("%s: %u by %u, %u nonzeros, cap %u, budget %u\n", name, (unsigned)p->m, (unsigned)p->n,
+           (unsigned)p->nonzeros, (unsigned)cap, (unsigned)budget);
+    if (answer == GULZORENO_NONE_YET) {
+        printf("  none yet\n");
+        return 0;
+    }
+    if (answer != GULZORENO_SPLIT) {
+        printf("  refused %u at %u\n", (unsigned)GULZORENO_REFUSAL(answer), (unsigned)GULZORENO_PLACE(answer));
+        return 0;
+    }
+    printf("  parts ");
+    for (uint64_t t = 0; t < p->nonzeros; t++) {
+        printf("%u", parts[t]);
+        load[parts[t]]++;
+    }
+    printf("\n  loads %u and %u\n", load[0], load[1]);
+    uint64_t volume = figure(figures, GULZORENO_AT_VOLUME);
+    printf("  volume %u, tries %u, floor %u, %s\n", (unsigned)volume, (unsigned)figure(figures, GULZORENO_AT_TRIES),
+           (unsigned)figure(figures, GULZORENO_AT_FLOOR),
+           figure(figures, GULZORENO_AT_COMPLETE) ? "complete" : "stopped");
+    unsigned cut = cut_lines(p, parts);
+    printf("  cut lines counted here: %u\n", cut);
+    return cut != volume || load[0] > cap || load[1] > cap;
+}
+
+/* By row, and then by column. */
+static int by_place(const void *a, const void *b)
+{
+    return memcmp(a, b, 2);
+}
+
+/* Reads a Matrix Market pattern that fits the limits. Answers 0 if it could. */
+static int read_pattern(const char *path, struct pattern *p)
+{
+    char line[1024];
+    unsigned m, n, nonzeros, i, j;
+    FILE *f = fopen(path, "r");
+    if (f == NULL)
+        return 1;
+    do {
+        if (fgets(line, sizeof line, f) == NULL)
+            goto bad;
+    } while (line[0] == '%');
+    if (sscanf(line, "%u %u %u", &m, &n, &nonzeros) != 3)
+        goto bad;
+    if (m > GULZORENO_MOST_LINES || n > GULZORENO_MOST_LINES || nonzeros > GULZORENO_MOST_NONZEROS)
+        goto bad;
+    for (unsigned t = 0; t < nonzeros; t++) {
+        if (fscanf(f, "%u %u", &i, &j) != 2 || i < 1 || i > m || j < 1 || j > n)
+            goto bad;
+        p->list[2 * t] = (uint8_t)(i - 1);
+        p->list[2 * t + 1] = (uint8_t)(j - 1);
+    }
+    fclose(f);
+    qsort(p->list, nonzeros, 2, by_place);
+    p->m = m;
+    p->n = n;
+    p->nonzeros = nonzeros;
+    return 0;
+bad:
+    fclose(f);
+    return 1;
+}
+
+int main(int argc, char **argv)
+{
+    static const struct pattern diagonal = {2, 2, 2, {0, 0, 1, 1}};
+    static struct pattern p;
+    int wrong = split("the 2 by 2 diagonal", &diagonal, 1, 100);
+
+    wrong |= split("the 2 by 2 diagonal", &diagonal, 1, 3);
+    wrong |= split("the 2 by 2 diagonal", &diagonal, 0, 100);
+    for (int k = 1; k < argc; k++) {
+        if (read_pattern(argv[k], &p) != 0) {
+            fprintf(stderr, "%s: no pattern that fits\n", argv[k]);
+            return 1;
+        }
+        const char *name = strrchr(argv[k], '/');
+        wrong |= split(name == NULL ? argv[k] : name + 1, &p, 103 * p.nonzeros / 200, GULZORENO_MOST_BUDGET);
+    }
+    return wrong;
+}

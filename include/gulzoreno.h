@@ -1,0 +1,93 @@
+/* Exact bipartitioning of a sparse pattern: the function for a host in C.
+ *
+ * It divides the nonzeros of a matrix over two parts, 0 and 1. No part gets more nonzeros than the cap. A line, which is a row
+ * or a column, is cut if it has nonzeros in both parts, and the volume of a split is its number of cut lines. A complete search
+ * gives a split of the least volume under the cap.
+ *
+ * Build the archive with `rt staticlib gulzoreno` and link target/staticlib/libgulzoreno.a. It needs memcpy and memset of the C
+ * library and nothing else. */
+#ifndef GULZORENO_H
+#define GULZORENO_H
+
+#include <stddef.h>
+#include <stdint.h>
+
+#ifdef __cplusplus
+extern "C" {
+#endif
+
+/* The limits. */
+#define GULZORENO_MOST_LINES 120      /* rows, and columns; at least 1 of each */
+#define GULZORENO_MOST_NONZEROS 2000  /* and at most rows times columns */
+#define GULZORENO_MOST_CAP 2000       /* nonzeros of one part */
+#define GULZORENO_MOST_BUDGET 1000000 /* tries of one call */
+
+/* The answers other than a refusal. */
+#define GULZORENO_SPLIT 0      /* parts and figures are written */
+#define GULZORENO_NONE_YET 255 /* the budget ended before a split was found; nothing is written */
+
+/* A refusal is number + 256 * place, and then nothing is written. The place is the number of the offending nonzero for 5 and
+ * 10, and 0 for the others. The checks are made in this order, and the first that fails is answered; 5 and 10 are checked for
+ * nonzero 0, then for nonzero 1, and so on.
+ *
+ *    4  too big       m, n or nonzeros outside its range
+ *    9  short buffer  list has fewer than 2 * nonzeros bytes
+ *    5  off matrix    row not below m, or column not below n
+ *   10  order         a nonzero does not come after the one before it, by row and then by column
+ *   11  cap           cap outside its range
+ *   12  no split      nonzeros above 2 * cap: no split meets the cap
+ *   13  budget        budget outside its range
+ *    9  short buffer  parts has fewer than `nonzeros` bytes, or figures fewer than 32 */
+#define GULZORENO_REFUSAL(answer) ((answer) % 256)
+#define GULZORENO_PLACE(answer) ((answer) / 256)
+
+#define GULZORENO_TOO_BIG 4
+#define GULZORENO_OFF_MATRIX 5
+#define GULZORENO_SHORT_BUFFER 9
+#define GULZORENO_ORDER 10
+#define GULZORENO_CAP 11
+#define GULZORENO_NO_SPLIT 12
+#define GULZORENO_BUDGET 13
+
+/* The figures: four numbers of eight bytes each, lowest byte first, at these offsets. */
+#define GULZORENO_FIGURES 32
+#define GULZORENO_AT_VOLUME 0
+#define GULZORENO_AT_TRIES 8
+#define GULZORENO_AT_FLOOR 16
+#define GULZORENO_AT_COMPLETE 24
+
+/* Searches for a split of least volume, for at most `budget` tries.
+ *
+ *   m, n                  rows and columns, 1 to 120 each
+ *   nonzeros              0 to 2000, and at most m * n
+ *   list, list_len        the nonzeros: a row byte and a column byte for each, counted from 0, strictly rising by row and then
+ *                         column. Bytes past the first 2 * nonzeros are not looked at
+ *   cap                   most nonzeros of a part, 0 to 2000
+ *   budget                most tries, 0 to 1000000. A search makes all of them unless it is complete before
+ *   parts, parts_len      out: the part, 0 or 1, of each nonzero in the list's order. Bytes past the first `nonzeros` stay
+ *   figures, figures_len  out: 32 bytes. Bytes past them stay
+ *       volume            cut lines of the split written
+ *       tries             tries made
+ *       floor             no split that meets the cap has a lower volume
+ *       complete          1 if the search is complete, and then the volume is the least and equals the floor; 0 otherwise
+ *
+ * Answers 0 with parts and figures written, or 255, or a refusal; with the last two no byte of parts or figures is changed.
+ *
+ * The three slices stay the caller's. Each pointer must not be null, even where its length is 0, and must point to as many bytes
+ * as its length says; parts and figures must overlap neither each other nor list, and nothing else may write any of the three
+ * during the call. There is no other demand on the arguments: any numbers and any bytes are answered.
+ *
+ * The function allocates nothing, keeps nothing between calls and has no state of its own, so that equal arguments give equal
+ * answers, every call starts its search anew, and threads may call it at once, with one list for all of them if they like, but
+ * each with parts and figures of its own. Allow it 64 kilobytes of stack. */
+uint64_t gulzoreno_bipartition(uint64_t m, uint64_t n, uint64_t nonzeros,
+                               const uint8_t *list, size_t list_len,
+                               uint64_t cap, uint64_t budget,
+                               uint8_t *parts, size_t parts_len,
+                               uint8_t *figures, size_t figures_len);
+
+#ifdef __cplusplus
+}
+#endif
+
+#endif
