@@ -11,7 +11,8 @@ mod writings;
 
 // Every table in turn.
 fn main() {
-    banners::refused();
+    banners::other_starts();
+    banners::other_words();
     banners::read();
     sizes::refused();
     sizes::read();
@@ -25,7 +26,8 @@ fn main() {
     limits::slices();
     limits::lengths();
     writings::sizes();
-    writings::nonzeros();
+    writings::places();
+    writings::parts();
     writings::outputs();
     writing_back::texts();
     writing_back::largest();

@@ -86,8 +86,8 @@ pub fn sizes() {
     split(b"short before off", 2, 2, 2, b"\x02\x02\x01\x01", b"\x02");
 }
 
-// Nonzeros off the matrix, not rising, with a part byte above 1.
-pub fn nonzeros() {
+// Nonzeros off the matrix, and not rising.
+pub fn places() {
     split(b"write row over", 2, 3, 2, b"\x02\x00\x02\x01", b"\x00\x01");
     split(
         b"write column over",
@@ -114,10 +114,14 @@ pub fn nonzeros() {
         b"\x00\x01\x00\x00",
         b"\x00\x01",
     );
+}
+
+// Part bytes above 1, and the order of a nonzero's checks.
+pub fn parts() {
     split(b"write part 2", 2, 2, 2, b"\x00\x00\x01\x01", b"\x02\x00");
     split(b"write part 255", 2, 2, 2, b"\x00\x00\x01\x01", b"\x00\xff");
     split(
-        b"off before order and part",
+        b"off before the rest",
         2,
         2,
         2,
@@ -133,7 +137,7 @@ pub fn nonzeros() {
         b"\x00\x02",
     );
     split(
-        b"part before the next nonzero",
+        b"nonzero by nonzero",
         2,
         2,
         2,
@@ -142,60 +146,17 @@ pub fn nonzeros() {
     );
 }
 
-// Outputs of several lengths: the text takes 110 bytes.
+// The 2 by 2 diagonal with these parts, written to an output of this length: the text takes 110 bytes.
+fn diagonal(name: &[u8], parts: &[u8], room: usize) {
+    write_within(name, 2, 2, 2, b"\x00\x00\x01\x01", parts, room);
+}
+
+// Outputs of several lengths.
 pub fn outputs() {
-    write_within(
-        b"empty output",
-        2,
-        2,
-        2,
-        b"\x00\x00\x01\x01",
-        b"\x00\x01",
-        0,
-    );
-    write_within(
-        b"output one byte short",
-        2,
-        2,
-        2,
-        b"\x00\x00\x01\x01",
-        b"\x00\x01",
-        109,
-    );
-    write_within(
-        b"output just long enough",
-        2,
-        2,
-        2,
-        b"\x00\x00\x01\x01",
-        b"\x00\x01",
-        110,
-    );
-    write_within(
-        b"output longer",
-        2,
-        2,
-        2,
-        b"\x00\x00\x01\x01",
-        b"\x00\x01",
-        200,
-    );
-    write_within(
-        b"part before output",
-        2,
-        2,
-        2,
-        b"\x00\x00\x01\x01",
-        b"\x00\x02",
-        0,
-    );
-    write_within(
-        b"lists longer",
-        2,
-        2,
-        1,
-        b"\x01\x00\x09\x09",
-        b"\x01\x09",
-        200,
-    );
+    diagonal(b"empty output", b"\x00\x01", 0);
+    diagonal(b"output one byte short", b"\x00\x01", 109);
+    diagonal(b"output just long enough", b"\x00\x01", 110);
+    diagonal(b"output longer", b"\x00\x01", 200);
+    diagonal(b"part before output", b"\x00\x02", 0);
+    split(b"lists longer", 2, 2, 1, b"\x01\x00\x09\x09", b"\x01\x09");
 }
