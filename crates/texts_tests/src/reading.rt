@@ -2,7 +2,7 @@
 use crate::saying::say;
 use crate::saying::say_bytes;
 use crate::saying::say_read;
-use texts::entries::put;
+use pattern::reading::put;
 use texts::read::read;
 
 // The place after another, up to a million.

@@ -5,7 +5,7 @@ use crate::saying::say_number;
 use crate::saying::say_read;
 use crate::saying::say_written;
 use pattern::reading::byte_at;
-use texts::entries::put;
+use pattern::reading::put;
 use texts::read::read;
 use writing::Figures;
 use writing::WriteAnswer;
