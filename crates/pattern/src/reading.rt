@@ -1,7 +1,7 @@
-// Reading a list of nonzeros. Each function takes any values: past the end of a list every byte is 0.
+// Bytes of a list of nonzeros, read and set. Each function takes any values: past the end of a list every byte is 0, and none is set.
 ghost use mathlib.Core.Path.{_≡_};
 ghost use Prim.Native.Nat.{_<_};
-ghost use lib.ListN.{getD};
+ghost use lib.ListN.{getD, set};
 ghost use Rattle.model.specs.Pattern.{rowIn, columnIn};
 
 // A byte as an index.
@@ -37,6 +37,15 @@ pub fn byte_at(list: &[u8], at: usize) -> u8
     ensures { λ r. ⌜ r ≡ getD (now (list .entry)) at 0 ⌝ }
 {
     if at < list.len() { list[at] } else { 0 }
+}
+
+// Sets the byte at a place of a list.
+pub fn put(list: &mut [u8], at: usize, b: u8)
+    ensures { λ _. ⌜ now (list .exit) ≡ set (now (list .entry)) at b ⌝ }
+{
+    if at < list.len() {
+        list[at] = b;
+    }
 }
 
 // The row of nonzero t.

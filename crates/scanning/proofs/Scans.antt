@@ -11,13 +11,13 @@ use lib.Dec.{eqb, ltb, leb}
 use lib.ListN.{length, getD}
 use borrow.Author.Tests.{ltb-true, ltb-false, leb-true, lt-ltb, le-ltb, le-leb, lt-leb, eq-eqb, ne-eqb}
 use Rattle.counting.specs.Tests.{_and_, _or_, pick}
-use Rattle.counting.proofs.Joined.{by-test, no-way, and-left, and-right, and-intro, and-passed, and-fails-left, and-fails-right, or-left, pick-true, pick-false}
+use Rattle.counting.proofs.Joined.{by-test, no-way, and-left, and-right, and-intro, and-passed, and-fails-left, and-fails-right, pick-true, pick-false}
 use Rattle.scanning.specs.declared.Run.{Run}
 use Rattle.scanning.specs.declared.Run.the-variants.{Line, Digits}
 use Rattle.scanning.specs.declared.Number.{Number}
 use Rattle.scanning.specs.declared.Numbers.{Numbers}
 use Rattle.scanning.specs.Classes.{between, digitOf}
-use Rattle.scanning.specs.Lines.{past, runsAt, runEnd, lineStop, hasReturn, lineEnd, lineNext, emptyLine, isComment, skipped, sizeLineAt}
+use Rattle.scanning.specs.Lines.{past, runsAt, runEnd, lineStop, hasReturn, lineEnd, lineNext, emptyLine, isComment, passedOver, skipped, sizeLineAt}
 use Rattle.scanning.specs.Words.{spells, sameWord, isNumber, valueOf, numberValue, numberAt, endsAt, threeAt, twoAt, numbersAt}
 
 -- a number between two others passes the test, any other fails it
@@ -262,16 +262,19 @@ module _ (text : List ℕ) (at stop : ℕ) (e : stop ≡ lineStop text at) where
 pub skip-none : (text : List ℕ) (at : ℕ) → length text ≤ at → false ≡ skipped text at
 skip-none text at h = sym (skipped-past text at h)
 
-module _ (text : List ℕ) (at : ℕ) (empty : Bool) (below : at < length text) (e : empty ≡ emptyLine text at) where
-  pub skip-empty : empty ≡ true → true ≡ skipped text at
-  unfolding skipped
-  skip-empty h = sym (and-passed _ (lt-ltb at (length text) below) ∙ or-left (isComment text at) (sym e ∙ h))
+pub skip-by : (text : List ℕ) (at : ℕ) (r : Bool) → at < length text → r ≡ passedOver true text at → r ≡ skipped text at
+unfolding skipped
+skip-by text at r below e = e ∙ sym (and-passed _ (lt-ltb at (length text) below))
 
-  pub skip-comment : (comment : Bool) → empty ≡ false → comment ≡ isComment text at → comment ≡ skipped text at
-  unfolding skipped _or_
-  skip-comment comment h c =
-      c
-      ∙ sym (and-passed _ (lt-ltb at (length text) below) ∙ ap (λ b. b or isComment text at) (sym e ∙ h))
+-- a line that is passed over or not
+module _ (text : List ℕ) (at : ℕ) (comments empty : Bool) (e : empty ≡ emptyLine text at) where
+  pub passed-empty : comments ≡ false → empty ≡ passedOver comments text at
+  passed-empty h = e ∙ sym (ap (λ b. passedOver b text at) h)
+
+  pub passed-either :
+      (comment r : Bool) → comments ≡ true → comment ≡ isComment text at → r ≡ (empty or comment) → r ≡ passedOver comments text at
+  passed-either comment r h c q =
+      q ∙ (ap (λ b. b or comment) e ∙ (ap (λ b. emptyLine text at or b) c ∙ sym (ap (λ b. passedOver b text at) h)))
 
 -- the digits tell
 pub number-by :

@@ -51,9 +51,14 @@ emptyLine text at = eqb (runEnd Blanks text at (lineEnd text at)) (lineEnd text 
 unfoldable pub isComment : List ℕ → ℕ → Bool
 isComment text at = isPercent (classOf (getD text at 0))
 
+-- passed over: an empty line, and a comment where comments are allowed
+abbrev pub passedOver : Bool → List ℕ → ℕ → Bool
+passedOver false text at = emptyLine text at
+passedOver true text at = emptyLine text at or isComment text at
+
 -- skipped before the size line: empty lines and comments
 unfoldable pub skipped : List ℕ → ℕ → Bool
-skipped text at = ltb at (length text) and (emptyLine text at or isComment text at)
+skipped text at = ltb at (length text) and passedOver true text at
 
 -- the first line from `at` on that is not skipped, or the text's length, looking at so many lines
 unfoldable pub sizeLineAt : List ℕ → ℕ → ℕ → ℕ

@@ -3,11 +3,12 @@ use crate::Run;
 use crate::classes::class_of;
 use crate::classes::goes_on;
 use crate::classes::is_percent;
+use crate::tests::either;
 use pattern::reading::byte_at;
 ghost use mathlib.Core.Path.{_≡_};
 ghost use Prim.Native.Nat.{_-_};
 ghost use lib.ListN.{length};
-ghost use Rattle.scanning.specs.Lines.{runsAt, runEnd, lineStop, hasReturn, lineEnd, lineNext, emptyLine, isComment, skipped, sizeLineAt};
+ghost use Rattle.scanning.specs.Lines.{runsAt, runEnd, lineStop, hasReturn, lineEnd, lineNext, emptyLine, isComment, passedOver, skipped, sizeLineAt};
 
 // The difference of two numbers, and 0 where it would fall below.
 pub fn less(x: usize, y: usize) -> usize
@@ -100,6 +101,19 @@ pub fn is_comment(text: &[u8], at: usize) -> bool
     is_percent(c)
 }
 
+// A line that is passed over: an empty one, and a comment where comments are allowed.
+pub fn is_passed_over(text: &[u8], at: usize, comments: bool) -> bool
+    ensures { λ r. ⌜ r ≡ passedOver comments (now (text .entry)) at ⌝ }
+{
+    let empty = is_empty(text, at);
+    if comments {
+        let comment = is_comment(text, at);
+        either(empty, comment)
+    } else {
+        empty
+    }
+}
+
 // A line that is skipped before the size line: an empty one or a comment.
 pub fn is_skipped(text: &[u8], at: usize) -> bool
     ensures { λ r. ⌜ r ≡ skipped (now (text .entry)) at ⌝ }
@@ -107,9 +121,7 @@ pub fn is_skipped(text: &[u8], at: usize) -> bool
     if text.len() <= at {
         return false;
     }
-    let empty = is_empty(text, at);
-    let comment = is_comment(text, at);
-    if empty { true } else { comment }
+    is_passed_over(text, at, true)
 }
 
 // The first line from a place on that is neither empty nor a comment, or the text's end.

@@ -6,9 +6,9 @@ use model::Word;
 use pattern::checks::and_then;
 use pattern::checks::sizes_verdict;
 use pattern::splits::both;
+use readings::line_after;
 use scanning::Run;
 use scanning::lines::line_end;
-use scanning::lines::line_next;
 use scanning::lines::run_end;
 use scanning::lines::size_line_at;
 use scanning::tests::either;
@@ -55,11 +55,11 @@ pub fn header_of(text: &[u8]) -> Header
 {
     let end = line_end(text, 0);
     let banner = banner_at(text, end);
-    let second = line_next(text, 0);
+    let second = line_after(text, 0);
     let at = size_line_at(text, second);
     let stop = line_end(text, at);
     let sizes = numbers_at(text, at, stop, true);
-    let next = line_next(text, at);
+    let next = line_after(text, at);
     Header {
         fine: banner.fine,
         integer: banner.integer,

@@ -43,6 +43,10 @@ module _ (m n nonzeros : ℕ) (list parts : List ℕ) where
   unfolding writeVerdict
   write-nonzeros h = nonzeros-small m n nonzeros (then-first _ _ h)
 
+-- the place after a text that is put from 0 on is its length
+pub measured : (page text new : List ℕ) (next : ℕ) → Puts page 0 text new next → next ≡ length text
+measured page text new next p = omega (arith, p .after)
+
 -- the output has no room, or it has
 module _ (text out : List ℕ) where
   pub no-room : (needed : ℕ) → needed ≡ length text → length out < needed → write-answer.Refused ShortBuffer 0 ≡ lengthAnswer text out

@@ -189,12 +189,12 @@ unfolding sizesText
 puts-sizes m n nonzeros a b c = puts-then a (puts-then b c)
 
 pub puts-entry :
-    {page new : List ℕ} {at next : ℕ} (list parts : List ℕ) (t row wide-row column wide-column place part wide-part : ℕ) →
+    {page new : List ℕ} {at next : ℕ} (list parts : List ℕ) (t row wide-row column wide-column place part wide-part i j p : ℕ) →
     row ≡ rowIn list t → wide-row ≡ row → column ≡ columnIn list t → wide-column ≡ column → place ≡ t → part ≡ getD parts place 0 → wide-part ≡ part →
-    Puts page at (sizesText (wide-row + 1) (wide-column + 1) (wide-part + 1)) new next → Puts page at (entryText list parts t) new next
+    Puts page at (sizesText i j p) new next → i ≡ wide-row + 1 → j ≡ wide-column + 1 → p ≡ wide-part + 1 → Puts page at (entryText list parts t) new next
 unfolding entryText
-puts-entry list parts t row wide-row column wide-column place part wide-part e1 e2 e3 e4 e5 e6 e7 p =
-    puts-as (rw (e2, e4, e7, e1, e3, e6, e5)) p
+puts-entry list parts t row wide-row column wide-column place part wide-part i j p e1 e2 e3 e4 e5 e6 e7 h e8 e9 e10 =
+    puts-as (rw (e8, e9, e10, e2, e4, e7, e1, e3, e6, e5)) h
 
 pub entry-room : (list parts : List ℕ) (t : ℕ) {page new : List ℕ} {at next : ℕ} → Puts page at (entryText list parts t) new next → next ≤ at + 63
 unfolding entryText

@@ -8,9 +8,9 @@ use model::Word;
 use pattern::reading::byte_at;
 use pattern::reading::column_of;
 use pattern::reading::long;
+use pattern::reading::put;
 use pattern::reading::row_of;
 use pattern::reading::wide16;
-use texts::entries::put;
 ghost use mathlib.Core.Path.{_≡_};
 ghost use mathlib.Core.List.{_++_};
 ghost use Prim.Native.Nat.{_+_, _%_, _≤_, _<_};
@@ -182,15 +182,7 @@ fn put_text(
     put_body(page, next, m, n, nonzeros, list, parts)
 }
 
-// The text's length.
-fn text_length(m: u64, n: u64, nonzeros: u16, list: &[u8], parts: &[u8], figures: Figures) -> usize
-    ensures { λ r. ⌜ r ≡ length (textOf m n nonzeros (now (list .entry)) (now (parts .entry)) figures) ⌝ }
-{
-    let mut page = [0u8; 1];
-    put_text(&mut page, m, n, nonzeros, list, parts, figures)
-}
-
-// The text where the output has room for it: 9 otherwise.
+// The text where the output has room for it: 9 otherwise. It is measured on another page.
 fn write_text(
     m: u64,
     n: u64,
@@ -198,12 +190,13 @@ fn write_text(
     list: &[u8],
     parts: &[u8],
     figures: Figures,
+    page: &mut [u8],
     out: &mut [u8],
 ) -> WriteAnswer
     ensures answer { λ r. ⌜ r ≡ lengthAnswer (textOf m n nonzeros (now (list .entry)) (now (parts .entry)) figures) (now (out .entry)) ⌝ }
     ensures out { λ r. ⌜ now (out .exit) ≡ textOut (textOf m n nonzeros (now (list .entry)) (now (parts .entry)) figures) (now (out .entry)) ⌝ }
 {
-    let needed = text_length(m, n, nonzeros, list, parts, figures);
+    let needed = put_text(page, m, n, nonzeros, list, parts, figures);
     if out.len() < needed {
         return WriteAnswer::Refused(Word::ShortBuffer, 0);
     }
@@ -226,7 +219,10 @@ pub fn write(
 {
     let verdict = write_verdict(m, n, nonzeros, list, parts);
     match verdict {
-        Verdict::Accepted => write_text(m, n, nonzeros as u16, list, parts, figures, out),
+        Verdict::Accepted => {
+            let mut page = [0u8; 1];
+            write_text(m, n, nonzeros as u16, list, parts, figures, &mut page, out)
+        }
         Verdict::Refused(word, place) => WriteAnswer::Refused(word, place),
     }
 }

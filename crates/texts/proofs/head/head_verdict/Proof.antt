@@ -49,7 +49,7 @@ and-then-requires-4 : tie.Need-and-then-requires-4
 and-then-requires-4 c κs = search needs
 
 returns : tie.Need-returns
-returns c = head-by _ _ _ _ _ _ _ _ _ _ _ _ _ _ _ (c .before .before .before .before .before .before .before .before .before .before .before .before .before .refuse-if .ensures) (c .before .before .before .before .before .before .before .before .before .before .before .before .refuse-unless .ensures) (c .before .before .before .before .before .before .before .before .before .before .before .refuse-unless2 .ensures) (c .before .before .before .before .before .before .before .sizes-verdict .ensures) (c .before .before .before .before .before .before .move-to .ensures) (c .before .before .before .before .before .is-short .ensures) (c .before .before .before .before .refuse-if2 .ensures) (c .before .before .before .and-then .ensures) (c .before .before .and-then2 .ensures) (c .before .and-then3 .ensures) (c .and-then4 .ensures)
+returns c = head-by (c .before .before .before .before .before .before .before .before .before .before .before .before .before .before .args .header) _ _ _ _ _ _ _ _ _ _ _ _ _ _ (c .before .before .before .before .before .before .before .before .before .before .before .before .before .refuse-if .ensures) (c .before .before .before .before .before .before .before .before .before .before .before .before .refuse-unless .ensures) (c .before .before .before .before .before .before .before .before .before .before .before .refuse-unless2 .ensures) (c .before .before .before .before .before .before .before .sizes-verdict .ensures) (c .before .before .before .before .before .before .move-to .ensures) (c .before .before .before .before .before .is-short .ensures) (c .before .before .before .before .refuse-if2 .ensures) (c .before .before .before .and-then .ensures) (c .before .before .and-then2 .ensures) (c .before .and-then3 .ensures) (c .and-then4 .ensures)
 
 pub head-verdict-spec : {M : Type 1} → statement M
 head-verdict-spec =

@@ -12,8 +12,8 @@ line-end-requires c κs = search needs
 banner-at-requires : tie.Need-banner-at-requires
 banner-at-requires c κs = search needs
 
-line-next-requires : tie.Need-line-next-requires
-line-next-requires c κs = search needs
+line-after-requires : tie.Need-line-after-requires
+line-after-requires c κs = search needs
 
 size-line-at-requires : tie.Need-size-line-at-requires
 size-line-at-requires c κs = search needs
@@ -24,8 +24,8 @@ line-end-requires-2 c κs = search needs
 numbers-at-requires : tie.Need-numbers-at-requires
 numbers-at-requires c κs = search needs
 
-line-next-requires-2 : tie.Need-line-next-requires-2
-line-next-requires-2 c κs = search needs
+line-after-requires-2 : tie.Need-line-after-requires-2
+line-after-requires-2 c κs = search needs
 
 returns : tie.Need-returns
 unfolding headerOf
@@ -37,9 +37,9 @@ header-of-spec =
     (tie.spec
     line-end-requires
     banner-at-requires
-    line-next-requires
+    line-after-requires
     size-line-at-requires
     line-end-requires-2
     numbers-at-requires
-    line-next-requires-2
+    line-after-requires-2
     returns)

@@ -10,7 +10,7 @@ use borrow.Fn.PlainCycle.{Measures, is, falls, and}
 use Rattle.writing.proofs.write.put_decimal.Reads as put-decimal
 use Rattle.writing.proofs.write.put_decimal.Kinds as put-decimal-kinds
 use Rattle.writing.proofs.write.+put_decimal.Lts-put_decimal as put-decimal-lts
-use Rattle.texts.proofs.entries.put.Reads as put-reads
+use Rattle.pattern.proofs.reading.put.Reads as put-reads
 use Rattle.writing.proofs.write.digit_byte.Reads as digit-byte-reads
 use Rattle.writing.proofs.write.+put_decimal.{statement}
 use Rattle.writing.proofs.write.+put_decimal.Tie.{close}

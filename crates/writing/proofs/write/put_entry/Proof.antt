@@ -1,5 +1,6 @@
 -- `writing::put_entry` meets its contract.
 -- Assumes nothing.
+use mathlib.Core.Path.{refl}
 use Rattle.writing.proofs.Puttings.{puts-entry}
 use borrow.Author.Needs.{needs}
 use Rattle.writing.proofs.write.put_entry.Statement.{statement}
@@ -42,7 +43,7 @@ same-length : tie.Need-same-length
 same-length c = search needs
 
 returns : tie.Need-returns
-returns c = puts-entry _ _ _ _ _ _ _ _ _ _ (c .before .before .before .before .before .before .before .before .before .before .row-of .ensures) (c .before .before .before .before .before .before .before .before .before .long .ensures .0) (c .before .before .before .before .before .before .before .before .column-of .ensures) (c .before .before .before .before .before .before .before .long2 .ensures .0) (c .before .before .before .before .before .before .wide16 .ensures .0) (c .before .before .before .before .before .byte-at .ensures) (c .before .before .before .before .long3 .ensures .0) (c .before .before .put-sizes .ensures)
+returns c = puts-entry _ _ _ _ _ _ _ _ _ _ _ _ _ (c .before .before .before .before .before .before .before .before .before .before .row-of .ensures) (c .before .before .before .before .before .before .before .before .before .long .ensures .0) (c .before .before .before .before .before .before .before .before .column-of .ensures) (c .before .before .before .before .before .before .before .long2 .ensures .0) (c .before .before .before .before .before .before .wide16 .ensures .0) (c .before .before .before .before .before .byte-at .ensures) (c .before .before .before .before .long3 .ensures .0) (c .before .before .put-sizes .ensures) refl refl refl
 
 pub put-entry-spec : {M : Type 1} → statement M
 put-entry-spec =

@@ -17,6 +17,9 @@ enum-told c = search needs
 cast-write-text : tie.Need-cast-write-text
 cast-write-text c = omega (arith, write-nonzeros _ _ _ _ _ (sym (c .before .before .write-verdict .ensures) ∙ accepted-tag _ (c .before .match .keys1)))
 
+slice-aggregate-write-text : tie.Need-slice-aggregate-write-text
+slice-aggregate-write-text c = search needs
+
 write-text-requires : tie.Need-write-text-requires
 write-text-requires c κs = search needs
 
@@ -27,7 +30,7 @@ same-length : tie.Need-same-length
 same-length c = search needs
 
 returns : tie.Need-returns
-returns c = (write-answer-is _ _ _ _ _ _ _ _ (c .before .before .before .before .before .before .write-verdict .ensures) _ (accepted-tag _ (c .before .before .before .before .before .match .keys1)) (c .before .before .write-text .ensures .0), write-out-is _ _ _ _ _ _ _ _ (c .before .before .before .before .before .before .write-verdict .ensures) _ (accepted-tag _ (c .before .before .before .before .before .match .keys1)) (c .before .before .write-text .ensures .1))
+returns c = (write-answer-is _ _ _ _ _ _ _ _ (c .before .before .before .before .before .before .before .before .write-verdict .ensures) _ (accepted-tag _ (c .before .before .before .before .before .before .before .match .keys1)) (c .before .before .before .write-text .ensures .0), write-out-is _ _ _ _ _ _ _ _ (c .before .before .before .before .before .before .before .before .write-verdict .ensures) _ (accepted-tag _ (c .before .before .before .before .before .before .before .match .keys1)) (c .before .before .before .write-text .ensures .1))
 
 returns-2 : tie.Need-returns-2
 returns-2 c = (write-refused _ _ _ _ _ _ _ _ (c .before .before .before .write-verdict .ensures) _ _ (c .before .verdict .given .1), write-out-kept _ _ _ _ _ _ _ _ (c .before .before .before .write-verdict .ensures) _ _ (c .before .verdict .given .1))
@@ -39,6 +42,7 @@ write-spec =
     write-verdict-requires
     enum-told
     cast-write-text
+    slice-aggregate-write-text
     write-text-requires
     enum-known-verdict
     same-length
