@@ -7,6 +7,7 @@ use model::ShowAnswer;
 use model::Verdict;
 use model::Word;
 use pattern::cap::cap_from_percent;
+use state::holding::complete_number;
 use texts::ReadAnswer;
 use texts::read::read;
 use writing::Figures;
@@ -16,16 +17,9 @@ use writing::write::lines::put_refused;
 use writing::write::write;
 ghost use mathlib.Core.Path.{_≡_};
 ghost use Rattle.model.specs.declared.ShowAnswer.the-variants.{Split};
-ghost use Rattle.model.specs.Calls.{capCall, openCall, runCall, completeNumber};
+ghost use Rattle.model.specs.Calls.{capCall, openCall, runCall};
 ghost use Rattle.writing.specs.Written.{Puts};
 ghost use Rattle.answering.specs.Answer.{figuresOf, lineText, afterShowing, searchText, ranText, openedText, afterCap, patternText, answerText};
-
-// Complete 0 or 1.
-pub fn complete_number(complete: bool) -> u64
-    ensures { λ r. ⌜ r ≡ completeNumber complete ⌝ }
-{
-    if complete { 1 } else { 0 }
-}
 
 // The figures of a search with a split to show.
 pub fn figures_of(search: Search, volume: u64, floor: u64) -> Figures

@@ -5,36 +5,15 @@ use model::ShowAnswer;
 use model::Verdict;
 use model::Word;
 use pattern::checks::and_then;
+use pattern::refusals::refusal_number;
 ghost use mathlib.Core.Path.{_≡_};
 ghost use Prim.Native.Nat.{_≤_};
 ghost use Rattle.model.specs.Limits.{nonzeroLimit};
-ghost use Rattle.model.specs.Refusal.{refusalNumber, refusalCode};
+ghost use Rattle.model.specs.Refusal.{refusalCode};
 ghost use Rattle.model.specs.Calls.{runCall, showCall, showParts, showCode};
 ghost use Rattle.gulzoreno.specs.Host.{outputVerdict, figuresShown, bipartitionCode, bipartitionParts, bipartitionFigures};
 
 pub mod figures;
-
-// The table's number for each word.
-pub fn refusal_number(word: Word) -> u64
-    ensures { λ r. ⌜ r ≡ refusalNumber word ⌝ }
-{
-    match word {
-        Word::Banner => 1,
-        Word::SizeLine => 2,
-        Word::EntryForm => 3,
-        Word::TooBig => 4,
-        Word::OffMatrix => 5,
-        Word::Repeated => 6,
-        Word::Count => 7,
-        Word::BadPart => 8,
-        Word::ShortBuffer => 9,
-        Word::Order => 10,
-        Word::Cap => 11,
-        Word::NoSplit => 12,
-        Word::Budget => 13,
-        Word::State => 14,
-    }
-}
 
 // A refusal as number + 256 × place; no place of a list is past the limit on nonzeros.
 fn refusal_code(word: Word, place: u64) -> u64

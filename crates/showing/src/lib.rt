@@ -1,6 +1,7 @@
 // Writing the split that a search shows: one pass over the nonzeros, in number order.
 use pattern::reading::column_of;
 use pattern::reading::long16;
+use pattern::reading::put;
 use pattern::reading::row_of;
 use pattern::reading::wide16;
 use weighing::cells::bit_of;
@@ -53,10 +54,7 @@ pub fn filled_by(zero: bool, one: bool, room: bool) -> u16
 pub fn write_part(parts: &mut [u8], t: u16, part: u8)
     ensures { λ _. ⌜ now (parts .exit) ≡ set (now (parts .entry)) t part ⌝ }
 {
-    let at = wide16(t);
-    if at < parts.len() {
-        parts[at] = part;
-    }
+    put(parts, wide16(t), part);
 }
 
 // Writes the shown split of a marking, of which part 0 takes so many nonzeros.

@@ -7,7 +7,7 @@ ghost use mathlib.Core.List.{[], _∷_};
 ghost use Prim.Native.Nat.{suc};
 ghost use Rattle.model.specs.Walk.{fresh};
 ghost use Rattle.model.specs.State.{arrayOf, trailOf, searchOf};
-ghost use Rattle.model.specs.Calls.{noRecord};
+ghost use Rattle.model.specs.Calls.{completeNumber, noRecord};
 ghost use Rattle.state.specs.Holding.{clearedTo, bestTo, normalOf};
 
 // No marks.
@@ -142,4 +142,11 @@ pub fn no_search() -> Search
         complete: false,
         trail,
     }
+}
+
+// Complete 0 or 1.
+pub fn complete_number(complete: bool) -> u64
+    ensures { λ r. ⌜ r ≡ completeNumber complete ⌝ }
+{
+    if complete { 1 } else { 0 }
 }

@@ -26,14 +26,14 @@ mul-at c = search needs
 loop-holds : tie.Need-loop-holds Inv-loop μ-loop
 loop-holds c = (omega arith, refl, omega (arith, c .wide .ensures .0), rest-first _, low-none _ _ _)
 
-add-put-byte : tie.Need-add-put-byte Inv-loop μ-loop
-add-put-byte c = search needs
+add-put : tie.Need-add-put Inv-loop μ-loop
+add-put c = search needs
 
-cast-put-byte : tie.Need-cast-put-byte Inv-loop μ-loop
-cast-put-byte c = search needs
+cast-put : tie.Need-cast-put Inv-loop μ-loop
+cast-put c = search needs
 
-put-byte-requires : tie.Need-put-byte-requires Inv-loop μ-loop
-put-byte-requires c κs = search needs
+put-requires : tie.Need-put-requires Inv-loop μ-loop
+put-requires c κs = search needs
 
 add-i : tie.Need-add-i Inv-loop μ-loop
 add-i c = search needs
@@ -47,8 +47,8 @@ loop-again c =
     let l = w .before .before .before in
     let start = l .before in
     let a = start .before .before .args in
-    let written = low-more (8 * start .wide .result) (a .x) (l .loop .i) (l .loop .rest) (a .out .now) (l .loop .out) _ (l .loop .inv .4) (l .loop .inv .3) (w .put-byte .ensures) in
-    let long : length (w .put-byte .last .0) ≡ length (a .out .now) = ap length (w .put-byte .ensures) ∙ simp length-set (l .loop .inv .1) in
+    let written = low-more (8 * start .wide .result) (a .x) (l .loop .i) (l .loop .rest) (a .out .now) (l .loop .out) _ (l .loop .inv .4) (l .loop .inv .3) (w .put .ensures) in
+    let long : length (w .put .last .0) ≡ length (a .out .now) = ap length (w .put .ensures) ∙ simp length-set (l .loop .inv .1) in
     (omega arith, long, l .loop .inv .2, rest-more (a .x) (l .loop .i) (l .loop .rest) (l .loop .inv .3), written)
 
 same-length : tie.Need-same-length Inv-loop μ-loop
@@ -69,9 +69,9 @@ put-figure-spec =
     wide-requires
     mul-at
     loop-holds
-    add-put-byte
-    cast-put-byte
-    put-byte-requires
+    add-put
+    cast-put
+    put-requires
     add-i
     loop-less
     loop-again

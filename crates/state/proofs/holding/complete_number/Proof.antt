@@ -1,10 +1,10 @@
--- `gulzoreno::figures::complete_number` meets its contract.
+-- `state::holding::complete_number` meets its contract.
 -- Assumes nothing.
 use borrow.Author.Needs.{needs}
 use Rattle.counting.specs.Tests.{bit}
 use Rattle.model.specs.Calls.{completeNumber}
-use Rattle.gulzoreno.proofs.figures.complete_number.Statement.{statement}
-use Rattle.gulzoreno.proofs.figures.complete_number.Tie as tie
+use Rattle.state.proofs.holding.complete_number.Statement.{statement}
+use Rattle.state.proofs.holding.complete_number.Tie as tie
 
 returns : tie.Need-returns
 unfolding completeNumber bit
