@@ -154,133 +154,43 @@ fn caps() {
 
 // 9: output slices, long enough to the byte, and a byte too short.
 fn slices() {
-    let diagonal = [0u8, 0, 1, 1];
     let mut parts = [7u8; 2];
     let mut figures = [7u8; 32];
-    call(
-        b"slices just long enough",
-        2,
-        2,
-        2,
-        &diagonal,
-        1,
-        100,
-        &mut parts,
-        &mut figures,
-    );
+    lend(b"slices just long enough", 100, &mut parts, &mut figures);
     let mut few = [7u8; 1];
     let mut room = [7u8; 32];
-    call(
-        b"parts too short",
-        2,
-        2,
-        2,
-        &diagonal,
-        1,
-        100,
-        &mut few,
-        &mut room,
-    );
+    lend(b"parts too short", 100, &mut few, &mut room);
     let mut enough = [7u8; 2];
     let mut cut = [7u8; 31];
-    call(
-        b"figures too short",
-        2,
-        2,
-        2,
-        &diagonal,
-        1,
-        100,
-        &mut enough,
-        &mut cut,
-    );
-    call(
-        b"parts too short, 3 tries",
-        2,
-        2,
-        2,
-        &diagonal,
-        1,
-        3,
-        &mut few,
-        &mut room,
-    );
+    lend(b"figures too short", 100, &mut enough, &mut cut);
+    lend(b"parts too short, 3 tries", 3, &mut few, &mut room);
+}
+
+// Splits the diagonal into these slices.
+fn lend(name: &[u8], budget: u64, parts: &mut [u8], figures: &mut [u8]) {
+    let diagonal = [0u8, 0, 1, 1];
+    call(name, 2, 2, 2, &diagonal, 1, budget, parts, figures);
 }
 
 // Several faults at once: the first check that fails is answered.
 fn orders() {
+    let bad = [5u8, 5, 0];
+    fault(b"4 before 9", 121, 2, &bad, 2001, 1_000_001);
+    fault(b"9 before 5", 2, 2, &bad, 2001, 1_000_001);
+    let mixed = [1u8, 0, 0, 0, 5, 5];
+    fault(b"10 at 1 before 5 at 2", 2, 3, &mixed, 2001, 1_000_001);
+    let diagonal = [0u8, 0, 1, 1];
+    fault(b"11 before 13", 2, 2, &diagonal, 2001, 1_000_001);
+    fault(b"12 before 13", 2, 2, &diagonal, 0, 1_000_001);
+    fault(b"13 before 9", 2, 2, &diagonal, 1, 1_000_001);
+    fault(b"9 at last", 2, 2, &diagonal, 1, 100);
+}
+
+// A call on two columns with output slices that are too short.
+fn fault(name: &[u8], m: u64, nonzeros: u64, list: &[u8], cap: u64, budget: u64) {
     let mut few = [7u8; 1];
     let mut cut = [7u8; 31];
-    let bad = [5u8, 5, 0];
-    call(
-        b"4 before 9",
-        121,
-        2,
-        2,
-        &bad,
-        2001,
-        1_000_001,
-        &mut few,
-        &mut cut,
-    );
-    call(
-        b"9 before 5",
-        2,
-        2,
-        2,
-        &bad,
-        2001,
-        1_000_001,
-        &mut few,
-        &mut cut,
-    );
-    let mixed = [1u8, 0, 0, 0, 5, 5];
-    call(
-        b"10 at 1 before 5 at 2",
-        2,
-        2,
-        3,
-        &mixed,
-        2001,
-        1_000_001,
-        &mut few,
-        &mut cut,
-    );
-    let diagonal = [0u8, 0, 1, 1];
-    call(
-        b"11 before 13",
-        2,
-        2,
-        2,
-        &diagonal,
-        2001,
-        1_000_001,
-        &mut few,
-        &mut cut,
-    );
-    call(
-        b"12 before 13",
-        2,
-        2,
-        2,
-        &diagonal,
-        0,
-        1_000_001,
-        &mut few,
-        &mut cut,
-    );
-    call(
-        b"13 before 9",
-        2,
-        2,
-        2,
-        &diagonal,
-        1,
-        1_000_001,
-        &mut few,
-        &mut cut,
-    );
-    call(b"9 at last", 2, 2, 2, &diagonal, 1, 100, &mut few, &mut cut);
+    call(name, m, 2, nonzeros, list, cap, budget, &mut few, &mut cut);
 }
 
 fn main() {

@@ -149,19 +149,7 @@ fn show_listed(
     let places = places(rows, columns, size, list);
     let starts = row_starts(list, size);
     let k = line_total(rows, columns, size, list);
-    if state_fine(
-        search,
-        m,
-        n,
-        nonzeros,
-        rows,
-        columns,
-        size,
-        list,
-        &places,
-        &starts,
-        k,
-    ) {
+    if state_fine(search, rows, columns, size, list, &places, &starts, k) {
         return show_fine(
             search,
             rows,

@@ -7,6 +7,7 @@ use model::Trail;
 use model::Verdict;
 use model::Word;
 use pattern::reading::byte_at;
+use pattern::refusals::refusal_number;
 
 // A word and a number.
 pub fn say(word: &[u8], x: u64) {
@@ -50,29 +51,9 @@ fn put_trail(trail: Trail) {
     }
 }
 
-// The number of a refusal's word.
-fn number_of(word: Word) -> u64 {
-    match word {
-        Word::Banner => 1,
-        Word::SizeLine => 2,
-        Word::EntryForm => 3,
-        Word::TooBig => 4,
-        Word::OffMatrix => 5,
-        Word::Repeated => 6,
-        Word::Count => 7,
-        Word::BadPart => 8,
-        Word::ShortBuffer => 9,
-        Word::Order => 10,
-        Word::Cap => 11,
-        Word::NoSplit => 12,
-        Word::Budget => 13,
-        Word::State => 14,
-    }
-}
-
 // A refusal with its place.
 pub fn put_refused(word: Word, place: u64) {
-    say(b" refused ", number_of(word));
+    say(b" refused ", refusal_number(word));
     say(b" at ", place);
 }
 

@@ -100,30 +100,30 @@ unfolding shorter
 shorter-len trail = refl
 
 -- what the code has of a state check
-pub record Checked (m n nonzeros rows columns size : ℕ) (list places starts : List ℕ) (k : ℕ) (s : Search) (beginning : Trail) (begins full numbers trail best : Bool) : Type 0 where
+pub record Checked (m n nonzeros : ℕ) (list places starts : List ℕ) (k : ℕ) (s : Search) (beginning : Trail) (begins full numbers trail best : Bool) : Type 0 where
   pub short : beginning ≡ shorter (s .trail)
   pub begins-is :
-      Listed rows columns size list starts → Placed (patternOf rows columns size list) places → beginning .len ≤ 240 →
-      begins ≡ valid (patternOf rows columns size list) (s .cap) (marking (patternOf rows columns size list) (marksIn beginning))
+      Listed m n nonzeros list starts → Placed (patternOf m n nonzeros list) places → beginning .len ≤ 240 →
+      begins ≡ valid (patternOf m n nonzeros list) (s .cap) (marking (patternOf m n nonzeros list) (marksIn beginning))
   pub full-is :
-      Listed rows columns size list starts → Placed (patternOf rows columns size list) places → s .best .len ≤ 240 →
-      full ≡ valid (patternOf rows columns size list) (s .cap) (marking (patternOf rows columns size list) (marksIn (s .best)))
+      Listed m n nonzeros list starts → Placed (patternOf m n nonzeros list) places → s .best .len ≤ 240 →
+      full ≡ valid (patternOf m n nonzeros list) (s .cap) (marking (patternOf m n nonzeros list) (marksIn (s .best)))
   pub numbers-are : numbers ≡ numbersBy s m n nonzeros
   pub trail-test : trail ≡ trailBy (s .complete) (s .trail) k begins
   pub best-test : best ≡ bestBy s k full
 
 -- it is the state check of document 01
 pub checked-is :
-    (m n nonzeros rows columns size : ℕ) (list places starts : List ℕ) (k : ℕ) (s : Search) (beginning : Trail) (begins full numbers trail best : Bool) →
-    Checked m n nonzeros rows columns size list places starts k s beginning begins full numbers trail best →
-    Ready rows columns size list places starts k →
-    numbers and trail and best ≡ stateFine (rulesOf (patternOf rows columns size list) (s .cap)) m n nonzeros (recordOf s)
-checked-is m n nonzeros rows columns size list places starts k s beginning begins full numbers trail best c ready =
+    (m n nonzeros : ℕ) (list places starts : List ℕ) (k : ℕ) (s : Search) (beginning : Trail) (begins full numbers trail best : Bool) →
+    Checked m n nonzeros list places starts k s beginning begins full numbers trail best →
+    Ready m n nonzeros list places starts k →
+    numbers and trail and best ≡ stateFine (rulesOf (patternOf m n nonzeros list) (s .cap)) m n nonzeros (recordOf s)
+checked-is m n nonzeros list places starts k s beginning begins full numbers trail best c ready =
     ap (λ (x : Bool). x and trail and best) (c .numbers-are)
     ∙ state-is (rulesOf P (s .cap)) m n nonzeros s trail best trail-fine best-fine
   where
     P : Pattern
-    P = patternOf rows columns size list
+    P = patternOf m n nonzeros list
 
     k-is : rulesOf P (s .cap) .k ≡ k
     k-is = rules-k P (s .cap) ∙ sym (ready .total)

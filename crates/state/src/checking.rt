@@ -58,25 +58,22 @@ fn valid_of(
 // The state check of refusal 14, with the tables of an accepted list.
 pub fn state_fine(
     search: Search,
-    m: u64,
-    n: u64,
-    nonzeros: u64,
-    rows: u8,
-    columns: u8,
-    size: u16,
+    m: u8,
+    n: u8,
+    nonzeros: u16,
     list: &[u8],
     places: &[u16; 512],
     starts: &[u16; 257],
     k: u16,
 ) -> bool
-    ensures { λ v. ⌜ (Ready rows columns size (now (list .entry)) (now (places .entry)) (now (starts .entry)) k →
-        v ≡ stateFine (rulesOf (patternOf rows columns size (now (list .entry))) (search .cap)) m n nonzeros (recordOf search)) ⌝ }
+    ensures { λ v. ⌜ (Ready m n nonzeros (now (list .entry)) (now (places .entry)) (now (starts .entry)) k →
+        v ≡ stateFine (rulesOf (patternOf m n nonzeros (now (list .entry))) (search .cap)) m n nonzeros (recordOf search)) ⌝ }
 {
     let cap = search.cap;
     let beginning = shortened(search.trail);
-    let begins = valid_of(beginning, rows, columns, size, list, cap, places, starts);
-    let full = valid_of(search.best, rows, columns, size, list, cap, places, starts);
-    let numbers = numbers_fine(search, m, n, nonzeros);
+    let begins = valid_of(beginning, m, n, nonzeros, list, cap, places, starts);
+    let full = valid_of(search.best, m, n, nonzeros, list, cap, places, starts);
+    let numbers = numbers_fine(search, m as u64, n as u64, nonzeros as u64);
     let trail = trail_fine(search.trail, search.complete, wide16(k), begins);
     let best = best_fine(search, k, full);
     both_of(both_of(numbers, trail), best)

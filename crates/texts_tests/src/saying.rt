@@ -1,32 +1,9 @@
 // Printing of answers and bytes. Each byte of a lent slice is 9 before a call.
 use model::Word;
 use pattern::reading::long;
+use pattern::refusals::refusal_number;
 use texts::ReadAnswer;
 use writing::WriteAnswer;
-ghost use mathlib.Core.Path.{_≡_};
-ghost use Rattle.model.specs.Refusal.{refusalNumber};
-
-// The table's number for a word.
-fn number_of(word: Word) -> u64
-    ensures { λ r. ⌜ r ≡ refusalNumber word ⌝ }
-{
-    match word {
-        Word::Banner => 1,
-        Word::SizeLine => 2,
-        Word::EntryForm => 3,
-        Word::TooBig => 4,
-        Word::OffMatrix => 5,
-        Word::Repeated => 6,
-        Word::Count => 7,
-        Word::BadPart => 8,
-        Word::ShortBuffer => 9,
-        Word::Order => 10,
-        Word::Cap => 11,
-        Word::NoSplit => 12,
-        Word::Budget => 13,
-        Word::State => 14,
-    }
-}
 
 // Words as they are.
 pub fn say(words: &[u8]) {
@@ -50,7 +27,7 @@ pub fn say_number(words: &[u8], x: u64) {
 
 // A refusal, by the table's number and its place.
 fn say_refused(word: Word, place: u64) {
-    say_number(b": refused ", number_of(word));
+    say_number(b": refused ", refusal_number(word));
     say_number(b" at ", place);
 }
 

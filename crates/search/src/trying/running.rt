@@ -133,19 +133,7 @@ fn run_listed(search: Search, m: u64, n: u64, nonzeros: u64, list: &[u8], budget
     let places = places(rows, columns, size, list);
     let starts = row_starts(list, size);
     let k = line_total(rows, columns, size, list);
-    if state_fine(
-        search,
-        m,
-        n,
-        nonzeros,
-        rows,
-        columns,
-        size,
-        list,
-        &places,
-        &starts,
-        k,
-    ) {
+    if state_fine(search, rows, columns, size, list, &places, &starts, k) {
         return run_fine(
             search,
             rows,

@@ -43,7 +43,7 @@ returns c =
     let a = c .before .before .before .before .before .before .before .before .before .before .args in
     c .both-of2 .ensures
     ∙ ap (λ (x : Bool). x and c .before .before .best-fine .result) (c .before .both-of .ensures)
-    ∙ checked-is (a .m) (a .n) (a .nonzeros) (a .rows) (a .columns) (a .size) (a .list .now) (a .places .now) (a .starts .now) (a .k) (a .search) (c .before .before .before .before .before .before .before .before .shortened .result) (c .before .before .before .before .before .before .before .valid-of .result) (c .before .before .before .before .before .before .valid-of2 .result) (c .before .before .before .before .before .numbers-fine .result) (c .before .before .before .trail-fine .result) (c .before .before .best-fine .result) (record { short = c .before .before .before .before .before .before .before .before .shortened .ensures; begins-is = c .before .before .before .before .before .before .before .valid-of .ensures; full-is = c .before .before .before .before .before .before .valid-of2 .ensures; numbers-are = c .before .before .before .before .before .numbers-fine .ensures; trail-test = c .before .before .before .trail-fine .ensures ∙ ap (λ (j : ℕ). trailBy (a .search .complete) (a .search .trail) j (c .before .before .before .before .before .before .before .valid-of .result)) (c .before .before .before .before .wide16 .ensures .0); best-test = c .before .before .best-fine .ensures }) ready
+    ∙ checked-is (a .m) (a .n) (a .nonzeros) (a .list .now) (a .places .now) (a .starts .now) (a .k) (a .search) (c .before .before .before .before .before .before .before .before .shortened .result) (c .before .before .before .before .before .before .before .valid-of .result) (c .before .before .before .before .before .before .valid-of2 .result) (c .before .before .before .before .before .numbers-fine .result) (c .before .before .before .trail-fine .result) (c .before .before .best-fine .result) (record { short = c .before .before .before .before .before .before .before .before .shortened .ensures; begins-is = c .before .before .before .before .before .before .before .valid-of .ensures; full-is = c .before .before .before .before .before .before .valid-of2 .ensures; numbers-are = c .before .before .before .before .before .numbers-fine .ensures; trail-test = c .before .before .before .trail-fine .ensures ∙ ap (λ (j : ℕ). trailBy (a .search .complete) (a .search .trail) j (c .before .before .before .before .before .before .before .valid-of .result)) (c .before .before .before .before .wide16 .ensures .0); best-test = c .before .before .best-fine .ensures }) ready
 
 pub state-fine-spec : {M : Type 1} → statement M
 state-fine-spec =
