@@ -1,2 +1,4 @@
 pub mod Orders
 pub mod Steps
+pub mod Enough
+pub mod Roomy

@@ -1,4 +1,4 @@
--- A written text is short enough to be read.
+-- A written text has at most 20,231 bytes, and so is short enough to be read.
 -- Assumes nothing.
 use mathlib.Core.List.{List, _++_}
 use mathlib.Core.Path.{ap}
@@ -6,7 +6,6 @@ use Prim.Native.Nat.{ℕ, zero, suc, _+_, _*_, _≤_, _<_}
 use native.Mathlib.Omega.{arith}
 use lib.ListN.{length, getD, length-append}
 use Rattle.model.specs.Pattern.{rowIn, columnIn}
-use Rattle.texts.specs.Header.{textLimit}
 use Rattle.writing.specs.declared.Figures.{Figures}
 use Rattle.writing.specs.Written.{sizesText, entryText, entriesText, headText, bodyText, textOf}
 use Rattle.writing.proofs.Puttings.{sizes-short, head-short}
@@ -32,7 +31,7 @@ module _ {m n nonzeros : ℕ} {list parts : List ℕ} (split : Fine m n nonzeros
   entries-short zero b = omega (arith, ap length (entries-none list parts))
   entries-short (suc t) b = omega (arith, entries-length list parts t, entry-short t b, entries-short t (omega arith))
 
-  pub text-short : (f : Figures) → length (textOf m n nonzeros list parts f) ≤ textLimit
+  pub text-short : (f : Figures) → length (textOf m n nonzeros list parts f) ≤ 20_231
   unfolding textOf bodyText
   text-short f =
       let entries = entriesText list parts nonzeros in

@@ -1,0 +1,150 @@
+-- The first bytes of an input are enough: a first line of at most 64 bytes, a text at the limit, and one byte more.
+-- Assumes nothing.
+use mathlib.Core.Bool.{Bool, true, false, not}
+use mathlib.Core.List.{List, [], _∷_}
+use mathlib.Core.Path.{_≡_, refl, sym, _∙_, ap}
+use Prim.Native.Nat.{ℕ, zero, suc, _+_, _-_, _*_, _≤_, _<_}
+use native.Mathlib.Omega.{arith}
+use lib.Dec.{eqb, ltb, leb}
+use lib.ListN.{length, getD, take, drop, length-drop}
+use lib.Seq.{take-all, length-take-le, getD-take}
+use borrow.Author.Tests.{lt-ltb, ltb-true, ltb-false}
+use Rattle.counting.specs.Tests.{_and_, pick}
+use Rattle.counting.proofs.Joined.{by-test, pick-true, pick-false}
+use Rattle.model.specs.declared.Word.the-variants.{EntryForm, TooBig}
+use Rattle.model.specs.declared.Verdict.{Verdict}
+use Rattle.model.specs.declared.Verdict.the-variants.{Accepted, Refused}
+use Rattle.model.specs.Refusal.{refuse, _then_}
+use Rattle.model.proofs.Theorems.Accepted.{refuse-so}
+use Rattle.scanning.specs.declared.Run.{Run}
+use Rattle.scanning.specs.declared.Run.the-variants.{Digits}
+use Rattle.scanning.specs.Classes.{classOf, goesOn, cased, digitOf}
+use Rattle.scanning.specs.Lines.{past, runsAt, runEnd}
+use Rattle.scanning.specs.Words.{spells, sameWord, isNumber, valueOf, numberValue}
+use Rattle.texts.specs.declared.ReadAnswer.{ReadAnswer}
+use Rattle.texts.specs.declared.ReadAnswer.the-variants as read-answer
+use Rattle.texts.specs.Header.{textLimit, headerOf, headVerdict}
+use Rattle.texts.specs.Reading.{answerAfter, textVerdict, readVerdict, readCall, readList}
+use Rattle.writing.specs.Lines.{refusedText}
+use Rattle.answering.specs.declared.Order.{Order}
+use Rattle.answering.specs.Ordering.{#percent, #budget, orderOf}
+use Rattle.answering.specs.Answer.{listRoom, partsRoom, afterReading, patternText, answerText}
+use Rattle.scanning.proofs.Scans.{run-after}
+use Rattle.answering.proofs.Orders.{run-within}
+
+-- two inputs have the same first 64 bytes
+abbrev Alike : List ℕ → List ℕ → Type 0
+Alike a b = (i : ℕ) → i < 64 → getD a i 0 ≡ getD b i 0
+
+past-same : (p q : ℕ → Bool) (at k : ℕ) → ((i : ℕ) → i < at + k → p i ≡ q i) → past p at k ≡ past q at k
+unfolding past
+past-same p q at zero h = refl
+past-same p q at (suc k) h =
+    ap (λ (b : Bool). pick b (past p (at + 1) k) at) (h at (omega arith))
+    ∙ ap (λ (x : ℕ). pick (q at) x at) (past-same p q (at + 1) k (λ i l. h i (omega arith)))
+
+module _ (a b : List ℕ) (same : Alike a b) where
+  run-same : (run : Run) (at stop : ℕ) → at ≤ 64 → stop ≤ 64 → runEnd run a at stop ≡ runEnd run b at stop
+  unfolding runEnd runsAt
+  run-same run at stop h g =
+      past-same
+      (λ i. goesOn run (classOf (getD a i 0)))
+      (λ i. goesOn run (classOf (getD b i 0)))
+      at
+      (stop - at)
+      (λ i l. ap (λ (x : ℕ). goesOn run (classOf x)) (same i (omega arith)))
+
+  word-same :
+      (from stop : ℕ) (word : List ℕ) → from + length word ≤ 64 → sameWord a from stop false word ≡ sameWord b from stop false word
+  unfolding sameWord spells
+  word-same from stop word h =
+      ap
+      (λ (x : ℕ). eqb (stop - from) (length word) and eqb x (length word))
+      (past-same
+      (λ i. eqb (cased false (getD a (from + i) 0)) (getD word i 0))
+      (λ i. eqb (cased false (getD b (from + i) 0)) (getD word i 0))
+      0
+      (length word)
+      (λ i l. ap (λ (x : ℕ). eqb (cased false x) (getD word i 0)) (same (from + i) (omega arith))))
+
+  number-same : (from stop : ℕ) → from ≤ 64 → stop ≤ 64 → isNumber a from stop ≡ isNumber b from stop
+  unfolding isNumber
+  number-same from stop h g =
+      ap (λ (x : ℕ). ltb from stop and (leb (stop - from) 9 and eqb x stop)) (run-same Digits from stop h g)
+
+  digits-same : (from k : ℕ) → from + k ≤ 64 → valueOf a from k ≡ valueOf b from k
+  unfolding valueOf
+  digits-same from zero h = refl
+  digits-same from (suc k) h =
+      ap (λ (x : ℕ). x * 10 + digitOf (getD a (from + k) 0)) (digits-same from k (omega arith))
+      ∙ ap (λ (x : ℕ). valueOf b from k * 10 + digitOf x) (same (from + k) (omega arith))
+
+  value-same : (from stop : ℕ) → from ≤ stop → stop ≤ 64 → numberValue a from stop ≡ numberValue b from stop
+  unfolding numberValue
+  value-same from stop h g =
+      ap (λ (t : Bool). pick t (valueOf a from (stop - from)) 0) (number-same from stop (omega arith) g)
+      ∙ ap (λ (x : ℕ). pick (isNumber b from stop) x 0) (digits-same from (stop - from) (omega arith))
+
+  -- the first line ends within 64 bytes, and is the same
+  order-same : orderOf a ≡ orderOf b
+  unfolding orderOf
+  order-same =
+      let stop = runEnd Digits b 8 18 in
+      let end = runEnd Digits b (stop + 8) (stop + 8 + 10) in
+      let short : stop ≤ 18 = run-within Digits b 8 18 (omega arith) in
+      let last : end ≤ stop + 8 + 10 = run-within Digits b (stop + 8) (stop + 8 + 10) (omega arith) in
+      let starts : 8 ≤ stop = run-after Digits b 8 18 in
+      let later : stop + 8 ≤ end = run-after Digits b (stop + 8) (stop + 8 + 10) in
+      rw
+      (run-same Digits 8 18 (omega arith) (omega arith), run-same Digits (stop + 8) (stop + 8 + 10) (omega arith) (omega arith), word-same 0 8 #percent (omega arith), word-same stop (stop + 8) #budget (omega arith), number-same 8 stop (omega arith) (omega arith), number-same (stop + 8) end (omega arith) (omega arith), value-same 8 stop starts (omega arith), value-same (stop + 8) end later (omega arith), same end (omega arith))
+
+-- where the text starts
+order-next : (input : List ℕ) → orderOf input .next ≤ 64
+unfolding orderOf
+order-next input =
+    let stop = runEnd Digits input 8 18 in
+    let short : stop ≤ 18 = run-within Digits input 8 18 (omega arith) in
+    omega (arith, run-within Digits input (stop + 8) (stop + 8 + 10) (omega arith))
+
+-- a text over the limit is refused, whatever follows
+over-refused : (text : List ℕ) → textLimit < length text → readCall text listRoom partsRoom ≡ read-answer.Refused TooBig 0
+unfolding readCall readVerdict textVerdict headVerdict answerAfter _then_
+over-refused text h = rw (refuse-so (ltb textLimit (length text)) TooBig 0 (lt-ltb textLimit (length text) h))
+
+over-text : (text : List ℕ) (percent budget : ℕ) (out : List ℕ) → textLimit < length text → patternText text percent budget out ≡ refusedText TooBig 0
+unfolding patternText afterReading
+over-text text percent budget out h =
+    ap (λ (x : ReadAnswer). afterReading x (readList text listRoom partsRoom) percent budget out) (over-refused text h)
+
+-- bytes read at most: 64, the limit of a text, and one
+abbrev pub readLimit : ℕ
+readLimit = 65_601
+
+module _ (input out : List ℕ) where
+  first-bytes : Alike (take readLimit input) input
+  first-bytes i l = getD-take readLimit input i 0 (omega arith)
+
+  long-same : readLimit < length input → answerText (take readLimit input) out ≡ answerText input out
+  unfolding answerText
+  long-same h =
+      let first = take readLimit input in
+      let o = orderOf input in
+      let near = order-next input in
+      let whole = length-take-le readLimit input (omega arith) in
+      let short : textLimit < length (drop (o .next) first) = omega (arith, length-drop (o .next) first, whole, near) in
+      let long : textLimit < length (drop (o .next) input) = omega (arith, length-drop (o .next) input, near) in
+      ap
+      (λ (x : Order). pick (x .fine) (patternText (drop (x .next) first) (x .percent) (x .budget) out) (refusedText EntryForm 0))
+      (order-same first input first-bytes)
+      ∙ ap
+      (λ (t : List ℕ). pick (o .fine) t (refusedText EntryForm 0))
+      (over-text (drop (o .next) first) (o .percent) (o .budget) out short
+      ∙ sym (over-text (drop (o .next) input) (o .percent) (o .budget) out long))
+
+  -- the answer to what is read of an input is the answer to the input
+  pub enough-read : answerText (take readLimit input) out ≡ answerText input out
+  enough-read =
+      by-test
+      (ltb readLimit (length input))
+      (λ e. long-same (ltb-true readLimit (length input) e))
+      (λ e. ap (λ (x : List ℕ). answerText x out) (take-all readLimit input (ltb-false readLimit (length input) e)))
