@@ -1,6 +1,7 @@
 // Patterns of Table 1 of document 004 at 3 percent, those with an even number of nonzeros, each tried with a budget of 500,000. Prints the figures of each.
 // The search of karate ends. The others were tried and stopped in the test's time: Sandi_authors and chesapeake take over 200 million tries to the end,
-// mesh1e1, impcol_b and steam3 still more. divorce and cage5 have an odd number of nonzeros and wait for a later request.
+// and mesh1e1, impcol_b and steam3 did not end within hundreds of millions. divorce and cage5 have an odd number of nonzeros and wait for a later request.
+// mesh1e1 and chesapeake are read off pictures of the patterns; steam3's stored zeros are restored by filling its 4 by 4 blocks, which is an inference.
 use answering::splitting::answer;
 use libc::STDOUT_FILENO;
 use pattern::reading::byte_at;
