@@ -27,7 +27,7 @@ use Rattle.marking.proofs.Marked.{mark-by-is}
 use Rattle.weighing.specs.declared.taking.Taken.{Taken}
 use Rattle.weighing.specs.declared.leaning.Kinds.{Kinds}
 use Rattle.weighing.specs.Cells.{markingIn}
-use Rattle.weighing.specs.Taking.{TakesAll, validBy}
+use Rattle.weighing.specs.Taking.{TakesOpen, validBy}
 use Rattle.weighing.specs.Leaning.{conditionIn, LeansAll}
 use Rattle.weighing.proofs.Taken.{valid-by}
 use Rattle.weighing.proofs.Leans.{cut-is-L1, torn-is-L2, lean-leans}
@@ -52,7 +52,7 @@ sum-first cut torn x y r h e = omega (arith, max-eq-left h)
 -- a marking that is not valid: nothing is said of its bound
 pub not-valid :
     (P : Pattern) (cap : ℕ) (μ : Marking) (t : Taken) (zero₀ one₀ zero₁ one₁ : List ℕ) (r : Evaluation) →
-    TakesAll P μ t zero₀ one₀ zero₁ one₁ → validBy t cap ≡ false →
+    TakesOpen P μ t zero₀ one₀ zero₁ one₁ → validBy t cap ≡ false →
     r .valid ≡ false → r .zero ≡ t .zero → r .one ≡ t .one → Evaluates P cap μ r
 not-valid P cap μ t zero₀ one₀ zero₁ one₁ r k v e z o =
     record {

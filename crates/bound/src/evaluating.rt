@@ -11,9 +11,9 @@ use marking::marks::marks_by_line;
 use pattern::reading::long16;
 use weighing::leaning::Kinds;
 use weighing::leaning::lean_all;
+use weighing::rows::take_lines;
 use weighing::taking::Taken;
 use weighing::taking::is_valid;
-use weighing::taking::take_all;
 ghost use mathlib.Core.Bool.{true, false};
 ghost use mathlib.Core.List.{List};
 ghost use mathlib.Core.Path.{_≡_};
@@ -24,7 +24,7 @@ ghost use Rattle.model.specs.Marking.{Marking, marking};
 ghost use Rattle.model.specs.State.{arrayOf};
 ghost use Rattle.marking.specs.Marks.{markBy};
 ghost use Rattle.weighing.specs.Cells.{markingIn, Cleared};
-ghost use Rattle.weighing.specs.Taking.{TakesAll, validBy};
+ghost use Rattle.weighing.specs.Taking.{validBy};
 ghost use Rattle.bound.specs.Evaluated.{Listed, Placed, TakenOn, Parts, Evaluates};
 
 // The evaluation of a marking that is not valid.
@@ -115,7 +115,7 @@ pub fn evaluate_lines(
 {
     let mut by_zero = no_lines();
     let mut by_one = no_lines();
-    let taken = take_all(m, n, nonzeros, list, marks, &mut by_zero, &mut by_one);
+    let taken = take_lines(m, n, nonzeros, list, marks, &mut by_zero, &mut by_one);
     if is_valid(taken, cap) {
         evaluate_valid(
             m,

@@ -2,7 +2,7 @@
 use marking::order::no_counts;
 use matching::search::matching_size;
 use weighing::striking::strike;
-use weighing::weights::weigh_all;
+use weighing::weights::weigh_lines;
 ghost use mathlib.Core.Path.{_≡_};
 ghost use Prim.Native.Nat.{_-_, _≤_};
 ghost use lib.Dec.{eqb};
@@ -54,7 +54,7 @@ pub fn lower_of(
         Lowered (patternOf m n nonzeros (now (list .entry))) (markingIn (now (marks .entry))) «zero_room» «one_room» r) ⌝ }
 {
     let mut weights = no_counts();
-    let stakes = weigh_all(m, n, nonzeros, list, marks, lean, &mut weights);
+    let stakes = weigh_lines(m, n, nonzeros, list, marks, lean, &mut weights);
     let zero_stake = stakes.zero;
     let one_stake = stakes.one;
     let conflicts = stakes.conflicts;

@@ -7,3 +7,4 @@ pub mod Tally
 pub mod Struck
 pub mod Weighed
 pub mod Whole
+pub mod Runs

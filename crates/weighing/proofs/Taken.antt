@@ -18,7 +18,7 @@ use Rattle.model.specs.Split.{partNumber}
 use Rattle.model.specs.Marking.{Marking, takes, taken, touched, valid}
 use Rattle.weighing.specs.declared.taking.Taken.{Taken}
 use Rattle.weighing.specs.Cells.{markingIn}
-use Rattle.weighing.specs.Taking.{TakesAll, validBy}
+use Rattle.weighing.specs.Taking.{TakesAll, TakesOpen, validBy}
 use Rattle.weighing.proofs.Steps.{count-more, count-none-yet, any-more, any-none-yet, pick-or}
 
 module _ (m n nonzeros : ℕ) (list marks : List ℕ) where
@@ -125,7 +125,7 @@ one-small {P} {μ} {t} k = omega (arith, k .one-is, count-most (takes P μ One) 
 -- the test of validity, on what the pass answers, is validity
 pub valid-by :
     {P : Pattern} {μ : Marking} {r : Taken} {z₀ o₀ z o : List ℕ} (cap : ℕ) →
-    TakesAll P μ r z₀ o₀ z o → validBy r cap ≡ valid P cap μ
+    TakesOpen P μ r z₀ o₀ z o → validBy r cap ≡ valid P cap μ
 unfolding validBy valid
 valid-by cap k = rw (k .zero-is, k .one-is, k .both-is)
 

@@ -12,7 +12,7 @@ use Rattle.weighing.specs.declared.taking.Taken.{Taken}
 use Rattle.weighing.specs.declared.leaning.Kinds.{Kinds}
 use Rattle.weighing.specs.declared.weights.Stakes.{Stakes}
 use Rattle.weighing.specs.Cells.{markingIn, Cleared}
-use Rattle.weighing.specs.Taking.{TakesAll}
+use Rattle.weighing.specs.Taking.{TakesOpen}
 use Rattle.weighing.specs.Leaning.{conditionIn, LeansAll}
 use Rattle.weighing.specs.Striking.{struckIn}
 use Rattle.weighing.specs.Weights.{conflictIn, WeighsAll}
@@ -34,7 +34,7 @@ size-of m n nonzeros list = refl
 pub record Passes (P : Pattern) (marks : List ℕ) (t : Taken) (k : Kinds) (s : Stakes) (zero₀ one₀ zero₁ one₁ lean₀ lean weights : List ℕ) : Type 0 where
   pub clear-zero : Cleared zero₀
   pub clear-one : Cleared one₀
-  pub takes-all : TakesAll P (markingIn marks) t zero₀ one₀ zero₁ one₁
+  pub takes-all : TakesOpen P (markingIn marks) t zero₀ one₀ zero₁ one₁
   pub leans-all : LeansAll (conditionIn marks zero₁ one₁) (lines P) k lean₀ lean
   pub weighs-all : WeighsAll P (markingIn marks) lean s weights
 

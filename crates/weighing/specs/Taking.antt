@@ -3,7 +3,7 @@
 use mathlib.Core.Bool.{Bool, not}
 use mathlib.Core.List.{List}
 use mathlib.Core.Path.{_≡_}
-use Prim.Native.Nat.{ℕ, _<_}
+use Prim.Native.Nat.{ℕ, _≤_, _<_}
 use lib.Dec.{leb}
 use lib.ListN.{getD}
 use Rattle.counting.specs.Tests.{_and_, pick}
@@ -20,6 +20,14 @@ pub record TakesAll (P : Pattern) (μ : Marking) (r : Taken) (zero₀ one₀ zer
   pub both-is : r .both ≡ any (λ t. takes P μ Zero t and takes P μ One t) (P .size)
   pub by-zero : (l : ℕ) → l < 512 → getD zero₁ l 0 ≡ pick (touched P μ Zero l) 1 (getD zero₀ l 0)
   pub by-one : (l : ℕ) → l < 512 → getD one₁ l 0 ≡ pick (touched P μ One l) 1 (getD one₀ l 0)
+
+-- the same, with the two arrays known only at lines that are not marked 0 or 1
+pub record TakesOpen (P : Pattern) (μ : Marking) (r : Taken) (zero₀ one₀ zero₁ one₁ : List ℕ) : Type 0 where
+  pub zero-is : r .zero ≡ taken P μ Zero
+  pub one-is : r .one ≡ taken P μ One
+  pub both-is : r .both ≡ any (λ t. takes P μ Zero t and takes P μ One t) (P .size)
+  pub by-zero : (l : ℕ) → l < 512 → 2 ≤ μ l → getD zero₁ l 0 ≡ pick (touched P μ Zero l) 1 (getD zero₀ l 0)
+  pub by-one : (l : ℕ) → l < 512 → 2 ≤ μ l → getD one₁ l 0 ≡ pick (touched P μ One l) 1 (getD one₀ l 0)
 
 -- valid, by what is taken
 unfoldable pub validBy : Taken → ℕ → Bool

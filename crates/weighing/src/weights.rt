@@ -4,15 +4,18 @@ use crate::cells::both_of;
 use crate::cells::byte_of;
 use crate::cells::either_of;
 use crate::cells::raise;
+use crate::reading::column_at;
+use crate::reading::is_full;
+use crate::reading::row_at;
 use crate::taking::takes_by;
 use pattern::reading::column_of;
 use pattern::reading::row_of;
 use pattern::reading::wide;
 ghost use mathlib.Core.Bool.{not};
 ghost use mathlib.Core.Path.{_≡_};
-ghost use Prim.Native.Nat.{ℕ, _+_, _<_};
+ghost use Prim.Native.Nat.{ℕ, _+_, _*_, _≤_, _<_};
 ghost use lib.Dec.{eqb};
-ghost use lib.ListN.{getD};
+ghost use lib.ListN.{getD, length};
 ghost use Rattle.counting.specs.Tests.{_and_, _or_, pick, bit};
 ghost use Rattle.model.specs.Pattern.{patternOf};
 ghost use Rattle.weighing.specs.Cells.{markingIn, raised, Cleared};
@@ -132,4 +135,60 @@ pub fn weigh_all(
         one,
         conflicts,
     }
+}
+
+// The same, for a list that holds every nonzero.
+fn weigh_full(
+    m: u8,
+    n: u8,
+    nonzeros: u16,
+    list: &[u8],
+    marks: &[u8; 512],
+    lean: &[u8; 512],
+    weights: &mut [u16; 512],
+) -> Stakes
+    requires { ⌜ 2 * nonzeros ≤ length (now list) ⌝ }
+    ensures { λ r. ⌜ WeighsAll (patternOf m n nonzeros (now (list .entry))) (markingIn (now (marks .entry))) (now (lean .entry)) r (now (weights .exit)) ⌝ }
+{
+    clear(weights);
+    let mut zero: u16 = 0;
+    let mut one: u16 = 0;
+    let mut conflicts: u16 = 0;
+    let mut t: u16 = 0;
+    while t < nonzeros {
+        let row = row_at(list, t);
+        let column = column_at(list, t);
+        let free = untaken_by(marks, m, row, column);
+        let first = stake_by(lean, m, row, column, 0, free);
+        let second = stake_by(lean, m, row, column, 1, free);
+        let conflict = conflict_by(lean, m, row, column);
+        weigh(weights, m, row, column, free);
+        zero = zero + first;
+        one = one + second;
+        conflicts = conflicts + bit_of(conflict);
+        t = t + 1;
+    }
+    Stakes {
+        zero,
+        one,
+        conflicts,
+    }
+}
+
+// What is at stake, as `weigh_all` answers it, in the quickest way that the list allows.
+pub fn weigh_lines(
+    m: u8,
+    n: u8,
+    nonzeros: u16,
+    list: &[u8],
+    marks: &[u8; 512],
+    lean: &[u8; 512],
+    weights: &mut [u16; 512],
+) -> Stakes
+    ensures { λ r. ⌜ WeighsAll (patternOf m n nonzeros (now (list .entry))) (markingIn (now (marks .entry))) (now (lean .entry)) r (now (weights .exit)) ⌝ }
+{
+    if is_full(list, nonzeros) {
+        return weigh_full(m, n, nonzeros, list, marks, lean, weights);
+    }
+    weigh_all(m, n, nonzeros, list, marks, lean, weights)
 }

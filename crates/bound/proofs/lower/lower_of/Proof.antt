@@ -13,8 +13,8 @@ use Rattle.bound.proofs.lower.lower_of.Tie as tie
 no-counts-requires : tie.Need-no-counts-requires
 no-counts-requires c κs = search needs
 
-weigh-all-requires : tie.Need-weigh-all-requires
-weigh-all-requires c κs = search needs
+weigh-lines-requires : tie.Need-weigh-lines-requires
+weigh-lines-requires c κs = search needs
 
 strike-requires : tie.Need-strike-requires
 strike-requires c κs = search needs
@@ -29,7 +29,7 @@ add-t22 : tie.Need-add-t22
 add-t22 c =
     let s = c .before .before .before .before .before .before .before .before .before in
     let a = s .args in
-    let w = c .before .before .before .before .before .weigh-all in
+    let w = c .before .before .before .before .before .weigh-lines in
     let weights = w .last .1 .1 .1 .1 .1 .1 .0 in
     omega (
       arith,
@@ -43,7 +43,7 @@ add-t22 c =
 returns : tie.Need-returns
 returns c =
     let a = c .before .before .before .before .before .before .before .before .before .args in
-    let w = c .before .before .before .before .before .weigh-all in
+    let w = c .before .before .before .before .before .weigh-lines in
     let weights = w .last .1 .1 .1 .1 .1 .1 .0 in
     let first = c .before .before .before .strike in
     let second = c .before .strike2 in (
@@ -78,7 +78,7 @@ lower-of-spec =
     tie.close
     (tie.spec
     no-counts-requires
-    weigh-all-requires
+    weigh-lines-requires
     strike-requires
     strike-requires-2
     matched-of-requires
