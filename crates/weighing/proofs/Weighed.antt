@@ -5,11 +5,12 @@ use mathlib.Core.List.{List}
 use mathlib.Core.Path.{_≡_, refl, sym, _∙_, ap}
 use Prim.Native.Nat.{ℕ, _+_, _≤_, _<_}
 use native.Mathlib.Omega.{arith}
-use lib.Dec.{eqb}
+use borrow.Author.Tests.{ltb-true, eqb-false, eq-eqb, ne-eqb}
+use lib.Dec.{eqb, ltb}
 use lib.ListN.{getD}
 use Rattle.counting.specs.Tests.{_and_, _or_, pick, bit}
 use Rattle.counting.specs.Sums.{count}
-use Rattle.counting.proofs.Joined.{no-way}
+use Rattle.counting.proofs.Joined.{no-way, by-test, bit-false, and-left, and-right, and-fails-left, and-fails-right, or-left, or-right, or-fails, pick-false}
 use Rattle.counting.proofs.Counted.{count-most, count-eq, count-some, count-none}
 use Rattle.model.specs.declared.Part.{Part}
 use Rattle.model.specs.declared.Part.the-variants.{Zero, One}
@@ -21,7 +22,7 @@ use Rattle.model.proofs.Split.Lines.{row-line-in, column-line-in}
 use Rattle.model.proofs.Bound.Cover.{cover-bounds}
 use Rattle.weighing.specs.declared.weights.Stakes.{Stakes}
 use Rattle.weighing.specs.Cells.{markingIn, raised, Cleared}
-use Rattle.weighing.specs.Weights.{leansIn, stakeIn, conflictIn, WeighsAll}
+use Rattle.weighing.specs.Weights.{leansIn, stakeIn, conflictIn, WeighsAll, WeighsMore}
 use Rattle.weighing.proofs.Steps.{count-more, count-none-yet}
 use Rattle.weighing.proofs.Stores.{raised-bit}
 
@@ -93,15 +94,6 @@ weighs-start P μ lean weights clear =
       conflicts-is = sym (count-none-yet (conflictIn P lean));
       weights-are = λ l b. clear l b ∙ sym (count-none-yet (λ s. on P l s and untaken P μ s));
     }
-
--- what one nonzero adds
-pub record WeighsMore (P : Pattern) (μ : Marking) (lean : List ℕ) (t zero one conflicts zero′ one′ conflicts′ : ℕ) (weights weights′ : List ℕ) : Type 0 where
-  pub zero-more : zero′ ≡ zero + bit (untaken P μ t and leansIn P lean 0 t)
-  pub one-more : one′ ≡ one + bit (untaken P μ t and leansIn P lean 1 t)
-  pub conflicts-more : conflicts′ ≡ conflicts + bit (conflictIn P lean t)
-  pub stored :
-      (l : ℕ) → l < 512 →
-      getD weights′ l 0 ≡ pick (on P l t and untaken P μ t) (raised (getD weights l 0)) (getD weights l 0)
 
 -- one nonzero more
 pub weighs-more :
@@ -192,3 +184,48 @@ module _ (P : Pattern) (μ : Marking) (lean : List ℕ) (i : Inside P) (right : 
     where
       none : (t : ℕ) → t < P .size → conflict P μ t ≡ true → false or false ≡ true
       none t b h = no-way (omega (arith, count-some (conflictIn P lean) (P .size) t b (conflict-is t b ∙ h)))
+
+-- a nonzero whose row is marked 0 or 1 is taken
+row-untaken :
+    (m n nonzeros : ℕ) (list : List ℕ) (μ : Marking) (t row : ℕ) → row ≡ rowIn list t → μ row < 2 →
+    untaken (patternOf m n nonzeros list) μ t ≡ false
+unfolding untaken takes patternOf rowLine columnLine
+row-untaken m n nonzeros list μ t row e h =
+    let b : μ (rowIn list t) < 2 = omega (arith, h, ap μ e) in
+    by-test
+    (eqb (μ (rowIn list t)) 0)
+    (λ y. ap not (or-left _ (or-left _ y)))
+    (λ f. ap not (or-right _ (or-left _ (eq-eqb (μ (rowIn list t)) 1 (omega (arith, b, eqb-false (μ (rowIn list t)) 0 f))))))
+
+-- and no conflict where its row does not lean
+row-apart :
+    (m n nonzeros : ℕ) (list lean : List ℕ) (t row : ℕ) → row ≡ rowIn list t → 1 < getD lean row 0 →
+    conflictIn (patternOf m n nonzeros list) lean t ≡ false
+unfolding conflictIn patternOf rowLine columnLine
+row-apart m n nonzeros list lean t row e h =
+    let b : 1 < getD lean (rowIn list t) 0 = omega (arith, h, ap (λ (x : ℕ). getD lean x 0) e) in
+    or-fails
+    (and-fails-left _ (ne-eqb (getD lean (rowIn list t) 0) 0 (λ f. omega (arith, b, f))))
+    (and-fails-left _ (ne-eqb (getD lean (rowIn list t) 0) 1 (λ f. omega (arith, b, f))))
+
+-- a taken nonzero adds a conflict or nothing
+pub taken-adds :
+    {P : Pattern} {μ : Marking} {lean : List ℕ} {t x y z z′ : ℕ} {weights : List ℕ} →
+    untaken P μ t ≡ false → z′ ≡ z + bit (conflictIn P lean t) → WeighsMore P μ lean t x y z x y z′ weights weights
+taken-adds {P} {μ} {lean} {t} {x} {y} {z} {z′} {weights} u e =
+    record {
+      zero-more = omega (arith, bit-false _ (and-fails-left (leansIn P lean 0 t) u));
+      one-more = omega (arith, bit-false _ (and-fails-left (leansIn P lean 1 t) u));
+      conflicts-more = e;
+      stored = λ l b. sym (pick-false _ _ (and-fails-right (on P l t) u));
+    }
+
+-- a nonzero whose row is marked 0 or 1 and does not lean adds nothing
+pub idle-adds :
+    (m n nonzeros : ℕ) (list : List ℕ) (μ : Marking) (lean : List ℕ) (t row x y z : ℕ) (weights : List ℕ) → row ≡ rowIn list t →
+    ltb (μ row) 2 and ltb 1 (getD lean row 0) ≡ true →
+    WeighsMore (patternOf m n nonzeros list) μ lean t x y z x y z weights weights
+idle-adds m n nonzeros list μ lean t row x y z weights e h =
+    taken-adds
+    (row-untaken m n nonzeros list μ t row e (ltb-true (μ row) 2 (and-left _ _ h)))
+    (omega (arith, bit-false _ (row-apart m n nonzeros list lean t row e (ltb-true 1 (getD lean row 0) (and-right _ _ h)))))

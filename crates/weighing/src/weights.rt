@@ -3,6 +3,7 @@ use crate::cells::bit_of;
 use crate::cells::both_of;
 use crate::cells::byte_of;
 use crate::cells::either_of;
+use crate::cells::mark_at;
 use crate::cells::raise;
 use crate::reading::column_at;
 use crate::reading::is_full;
@@ -14,12 +15,12 @@ use pattern::reading::wide;
 ghost use mathlib.Core.Bool.{not};
 ghost use mathlib.Core.Path.{_≡_};
 ghost use Prim.Native.Nat.{ℕ, _+_, _*_, _≤_, _<_};
-ghost use lib.Dec.{eqb};
+ghost use lib.Dec.{eqb, ltb};
 ghost use lib.ListN.{getD, length};
 ghost use Rattle.counting.specs.Tests.{_and_, _or_, pick, bit};
 ghost use Rattle.model.specs.Pattern.{patternOf};
 ghost use Rattle.weighing.specs.Cells.{markingIn, raised, Cleared};
-ghost use Rattle.weighing.specs.Weights.{WeighsAll};
+ghost use Rattle.weighing.specs.Weights.{WeighsAll, WeighsMore};
 
 // The untaken nonzeros at stake for 0 and for 1, and the conflicts.
 pub struct Stakes {
@@ -137,6 +138,57 @@ pub fn weigh_all(
     }
 }
 
+// A row is marked 0 or 1 and does not lean, so its nonzeros are neither at stake nor conflicts.
+fn is_idle(marks: &[u8; 512], lean: &[u8; 512], row: u8) -> bool
+    ensures { λ r. ⌜ r ≡ ltb (markingIn (now (marks .entry)) row) 2 and ltb 1 (getD (now (lean .entry)) row 0) ⌝ }
+{
+    let line = wide(row);
+    let mark = mark_at(marks, line);
+    let leaning = byte_of(lean, line);
+    both_of(mark < 2, 1 < leaning)
+}
+
+// What is at stake with nonzero t, from what is at stake before it.
+fn weigh_one(
+    m: u8,
+    list: &[u8],
+    marks: &[u8; 512],
+    lean: &[u8; 512],
+    t: u16,
+    stakes: Stakes,
+    weights: &mut [u16; 512],
+) -> Stakes
+    requires { ⌜ (2 * t + 1 < length (now list)) × (t < 65535) × (stakes .zero ≤ t) × (stakes .one ≤ t) × (stakes .conflicts ≤ t) ⌝ }
+    ensures { λ r. ⌜ ((n nonzeros : ℕ) → WeighsMore (patternOf m n nonzeros (now (list .entry))) (markingIn (now (marks .entry))) (now (lean .entry)) t
+        (stakes .zero) (stakes .one) (stakes .conflicts) (r .zero) (r .one) (r .conflicts) (now (weights .entry)) (now (weights .exit))) ⌝ }
+{
+    let row = row_at(list, t);
+    if is_idle(marks, lean, row) {
+        return stakes;
+    }
+    let column = column_at(list, t);
+    let conflict = conflict_by(lean, m, row, column);
+    let zero = stakes.zero;
+    let one = stakes.one;
+    let conflicts = stakes.conflicts + bit_of(conflict);
+    let free = untaken_by(marks, m, row, column);
+    if free {
+        let first = stake_by(lean, m, row, column, 0, true);
+        let second = stake_by(lean, m, row, column, 1, true);
+        weigh(weights, m, row, column, true);
+        return Stakes {
+            zero: zero + first,
+            one: one + second,
+            conflicts,
+        };
+    }
+    Stakes {
+        zero,
+        one,
+        conflicts,
+    }
+}
+
 // The same, for a list that holds every nonzero.
 fn weigh_full(
     m: u8,
@@ -156,16 +208,15 @@ fn weigh_full(
     let mut conflicts: u16 = 0;
     let mut t: u16 = 0;
     while t < nonzeros {
-        let row = row_at(list, t);
-        let column = column_at(list, t);
-        let free = untaken_by(marks, m, row, column);
-        let first = stake_by(lean, m, row, column, 0, free);
-        let second = stake_by(lean, m, row, column, 1, free);
-        let conflict = conflict_by(lean, m, row, column);
-        weigh(weights, m, row, column, free);
-        zero = zero + first;
-        one = one + second;
-        conflicts = conflicts + bit_of(conflict);
+        let stakes = Stakes {
+            zero,
+            one,
+            conflicts,
+        };
+        let next = weigh_one(m, list, marks, lean, t, stakes, weights);
+        zero = next.zero;
+        one = next.one;
+        conflicts = next.conflicts;
         t = t + 1;
     }
     Stakes {

@@ -14,7 +14,7 @@ use Rattle.weighing.specs.Cells.{markingIn, raised}
 use Rattle.weighing.specs.Weights.{leansIn, conflictIn}
 use Rattle.weighing.proofs.Steps.{bit-named, raise-named}
 use Rattle.weighing.proofs.Taken.{on-code}
-use Rattle.weighing.proofs.Weighed.{untaken-code, stake-code, conflict-code, WeighsTo, WeighsMore, weighs-start, weighs-more, weighs-end, stakes-small}
+use Rattle.weighing.proofs.Weighed.{untaken-code, stake-code, conflict-code, WeighsTo, weighs-start, weighs-more, weighs-end, stakes-small}
 use Rattle.weighing.proofs.weights.weigh_all.Statement.{statement}
 use Rattle.weighing.proofs.weights.weigh_all.Tie as tie
 
