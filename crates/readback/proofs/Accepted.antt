@@ -1,8 +1,8 @@
 -- What an accepted split gives: sizes in their ranges, nonzeros inside and in order, parts 0 or 1.
 -- Assumes nothing.
-use mathlib.Core.Bool.{Bool, true, false, not}
+use mathlib.Core.Bool.{true, false, not}
 use mathlib.Core.List.{List}
-use mathlib.Core.Path.{_≡_, refl, _∙_, ap}
+use mathlib.Core.Path.{_≡_, _∙_, ap}
 use mathlib.Core.Logic.{⊎-elim}
 use Prim.Native.Nat.{ℕ, zero, suc, _+_, _*_, _≤_, _<_}
 use native.Mathlib.Nat.{eq-or-lt-of-le, le-of-suc-le-suc}
@@ -12,7 +12,6 @@ use lib.ListN.{length, getD}
 use borrow.Author.Tests.{ltb-true, ltb-false, leb-false, eqb-true, not-false}
 use Rattle.counting.specs.Tests.{_and_, _or_}
 use Rattle.counting.proofs.Joined.{no-way, and-left, and-right, or-cases, or-fails-left, or-fails-right}
-use Rattle.model.specs.declared.Word.{Word}
 use Rattle.model.specs.declared.Word.the-variants.{OffMatrix, BadPart, ShortBuffer, Order}
 use Rattle.model.specs.declared.Verdict.{Verdict}
 use Rattle.model.specs.declared.Verdict.the-variants.{Accepted}
@@ -22,7 +21,7 @@ use Rattle.model.specs.Calls.{sizesVerdict, rises, entryVerdict}
 use Rattle.pattern.specs.Checks.{eachVerdict}
 use Rattle.pattern.specs.Measures.{partVerdict}
 use Rattle.pattern.proofs.Verdicts.{then-first, rows-small, columns-small, nonzeros-small}
-use Rattle.texts.proofs.Answers.{then-second}
+use Rattle.model.proofs.Theorems.Accepted.{then-second, refuse-not}
 use Rattle.writing.specs.Writing.{nonzeroVerdict, writeVerdict}
 use Rattle.readback.proofs.Rising.{Rising}
 
@@ -42,12 +41,6 @@ pub record Fine (m n nonzeros : ℕ) (list parts : List ℕ) : Type 0 where
   pub column-in : (t : ℕ) → t < nonzeros → columnIn list t < n
   pub part-in : (t : ℕ) → t < nonzeros → getD parts t 0 ≤ 1
   pub in-order : Rising (cellIn list) nonzeros
-
--- a check that refuses nothing: its test fails
-pub refuse-fails : (b : Bool) (word : Word) (place : ℕ) → refuse b word place ≡ Accepted → b ≡ false
-unfolding refuse
-refuse-fails true word place h = let z : _≡_ {A = ℕ} 0 1 = cc in no-way (omega arith)
-refuse-fails false word place h = refl
 
 -- checks of numbers that refuse nothing refuse nothing of each
 pub each-accepted : (check : ℕ → Verdict) (n t : ℕ) → eachVerdict check n ≡ Accepted → t < n → check t ≡ Accepted
@@ -78,7 +71,7 @@ module _ (m n nonzeros : ℕ) (list parts : List ℕ) (accepted : writeVerdict m
 
   rooms : ltb (length list) (2 * nonzeros) or ltb (length parts) nonzeros ≡ false
   unfolding writeVerdict
-  rooms = refuse-fails _ ShortBuffer 0 (then-first _ _ (then-second _ _ accepted))
+  rooms = refuse-not _ ShortBuffer 0 (then-first _ _ (then-second _ _ accepted))
 
   each : (t : ℕ) → t < nonzeros → nonzeroVerdict m n list parts t ≡ Accepted
   unfolding writeVerdict
@@ -91,16 +84,16 @@ module _ (m n nonzeros : ℕ) (list parts : List ℕ) (accepted : writeVerdict m
   inside : (t : ℕ) → t < nonzeros → leb m (rowIn list t) or leb n (columnIn list t) ≡ false
   unfolding entryVerdict
   inside t l =
-      refuse-fails _ OffMatrix t (then-first (refuse (leb m (rowIn list t) or leb n (columnIn list t)) OffMatrix t) _ (entry-accepted t l))
+      refuse-not _ OffMatrix t (then-first (refuse (leb m (rowIn list t) or leb n (columnIn list t)) OffMatrix t) _ (entry-accepted t l))
 
   ordered : (t : ℕ) → t < nonzeros → rises list t ≡ true
   unfolding entryVerdict
   ordered t l =
-      not-false (rises list t) (refuse-fails (not (rises list t)) Order t (then-second (refuse (leb m (rowIn list t) or leb n (columnIn list t)) OffMatrix t) _ (entry-accepted t l)))
+      not-false (rises list t) (refuse-not (not (rises list t)) Order t (then-second (refuse (leb m (rowIn list t) or leb n (columnIn list t)) OffMatrix t) _ (entry-accepted t l)))
 
   part-fails : (t : ℕ) → t < nonzeros → ltb 1 (getD parts t 0) ≡ false
   unfolding nonzeroVerdict partVerdict
-  part-fails t l = refuse-fails (ltb 1 (getD parts t 0)) BadPart t (then-second (entryVerdict m n list t) _ (each t l))
+  part-fails t l = refuse-not (ltb 1 (getD parts t 0)) BadPart t (then-second (entryVerdict m n list t) _ (each t l))
 
   column-inside : (t : ℕ) → t < nonzeros → columnIn list t < n
   column-inside t l = leb-false n (columnIn list t) (or-fails-right (leb m (rowIn list t)) (leb n (columnIn list t)) (inside t l))

@@ -21,9 +21,9 @@ use Rattle.texts.specs.declared.ReadAnswer.the-variants as read-answer
 use Rattle.texts.specs.Header.{headerOf, short, headVerdict}
 use Rattle.texts.specs.Entries.{noCells, entriesFrom}
 use Rattle.texts.specs.Reading.{listed, parted, entriesBelow, answerAfter, textVerdict, readVerdict, readCall, readList, readParts}
-use Rattle.texts.proofs.Answers.{then-second, head-sizes, parts-integer, below-list, below-parts, read-list-is, read-parts-is}
+use Rattle.model.proofs.Theorems.Accepted.{then-second, refuse-not}
+use Rattle.texts.proofs.Answers.{head-sizes, parts-integer, below-list, below-parts, read-list-is, read-parts-is}
 use Rattle.writing.specs.Writing.{nonzeroVerdict, writeVerdict}
-use Rattle.readback.proofs.Accepted.{refuse-fails}
 use Rattle.readback.proofs.Given.{GivesList, GivesParts, listed-length, parted-length, gives-listed, gives-parted}
 use Rattle.readback.proofs.Entered.{Entered, entered-none}
 use Rattle.readback.proofs.Taken.{entries-entered}
@@ -46,7 +46,7 @@ module _ (text list parts : List ℕ) (accepted : readVerdict text list parts �
 
   rooms : ltb (length list) (2 * h .nonzeros) or (h .integer and ltb (length parts) (h .nonzeros)) ≡ false
   unfolding headVerdict short
-  rooms = refuse-fails _ ShortBuffer 0 (then-second _ _ head-fine)
+  rooms = refuse-not _ ShortBuffer 0 (then-second _ _ head-fine)
 
   list-room : 2 * h .nonzeros ≤ length list
   list-room = ltb-false (length list) (2 * h .nonzeros) (or-fails-left _ (h .integer and ltb (length parts) (h .nonzeros)) rooms)

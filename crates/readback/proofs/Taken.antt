@@ -20,8 +20,7 @@ use Rattle.scanning.specs.Lines.{lineNext, emptyLine}
 use Rattle.texts.specs.declared.Header.{Header}
 use Rattle.texts.specs.Entries.{entryAt, cellOf, cellMark, entryCheck, lineVerdict, noted, endVerdict, Entries, after, entriesFrom}
 use Rattle.texts.proofs.Cells.{ended, later, one-line, entries-end, entries-none, entries-one}
-use Rattle.texts.proofs.Answers.{then-second}
-use Rattle.readback.proofs.Accepted.{refuse-fails}
+use Rattle.model.proofs.Theorems.Accepted.{then-second, refuse-not}
 use Rattle.readback.proofs.Entered.{Entered, entered-more}
 
 -- a number in its range
@@ -53,10 +52,10 @@ module _ (text : List ℕ) (h : Header) (rows : h .m ≤ 120) (columns : h .n �
       Entered (h .m) (h .n) (set cells (cellOf (entry .first) (entry .second)) (cellMark (entry .third))) (size + 1)
   unfolding entryCheck cellOf
   entry-entered entry place size cells v e =
-      let off = refuse-fails _ OffMatrix place (then-second _ _ (then-first _ _ (then-first _ _ v))) in
+      let off = refuse-not _ OffMatrix place (then-second _ _ (then-first _ _ (then-first _ _ v))) in
       let row = in-range (h .m) (entry .first) (or-fails-left (outside (h .m) (entry .first)) (outside (h .n) (entry .second)) off) in
       let column = in-range (h .n) (entry .second) (or-fails-right (outside (h .m) (entry .first)) (outside (h .n) (entry .second)) off) in
-      let free = refuse-fails _ Repeated place (then-second _ _ v) in
+      let free = refuse-not _ Repeated place (then-second _ _ v) in
       let mark = mark-range (entry .third) in
       entered-more e (entry .first - 1) (entry .second - 1) (cellMark (entry .third)) rows columns (omega arith) (omega arith) free (mark .0) (mark .1)
 
@@ -76,7 +75,7 @@ module _ (text : List ℕ) (h : Header) (rows : h .m ≤ 120) (columns : h .n �
       (rw (sym same, pick-true cells _ z) e, omega arith))
       (λ z. let one = entries-one (emptyLine text at) z in
       let checks = sym (pick-false Accepted _ z) ∙ v in
-      let below = leb-false (h .nonzeros) size (refuse-fails (leb (h .nonzeros) size) Count at (then-first _ _ checks)) in
+      let below = leb-false (h .nonzeros) size (refuse-not (leb (h .nonzeros) size) Count at (then-first _ _ checks)) in
       (rw (sym one, pick-false cells _ z) (entry-entered (entryAt text h at) at size cells (then-second _ _ checks) e), omega arith))
 
   -- the end of the text
@@ -85,7 +84,7 @@ module _ (text : List ℕ) (h : Header) (rows : h .m ≤ 120) (columns : h .n �
       Entered (h .m) (h .n) (ended text h size cells .cells) (h .nonzeros)
   unfolding ended endVerdict
   end-entered size cells v e b =
-      let all = ltb-false size (h .nonzeros) (refuse-fails (ltb size (h .nonzeros)) Count (length text) v) in
+      let all = ltb-false size (h .nonzeros) (refuse-not (ltb size (h .nonzeros)) Count (length text) v) in
       let same : size ≡ h .nonzeros = omega arith in
       rw same at e
 

@@ -2,17 +2,13 @@
 -- Assumes nothing.
 use mathlib.Core.Bool.{Bool, true, false}
 use mathlib.Core.List.{List, [], _∷_}
-use mathlib.Core.Option.{Option, some, none}
 use mathlib.Core.Path.{_≡_, refl, sym, _∙_, ap}
-use Prim.Native.Nat.{ℕ, zero, suc, _+_, _≤_, _<_}
-use native.Mathlib.Numerals.{add-one}
+use Prim.Native.Nat.{ℕ, _+_, _≤_, _<_}
 use native.Mathlib.Omega.{arith}
 use lib.Dec.{eqb, ltb}
 use lib.ListN.{length, getD}
-use borrow.Author.Tests.{eq-eqb, ne-eqb, lt-ltb}
-use Rattle.counting.specs.Tests.{bit}
-use Rattle.counting.proofs.Joined.{no-way, bit-true, bit-false, pick-true}
-use Rattle.model.specs.declared.Trail.{Trail}
+use borrow.Author.Tests.{ne-eqb, lt-ltb}
+use Rattle.counting.proofs.Joined.{no-way, pick-true}
 use Rattle.model.specs.declared.Search.{Search}
 use Rattle.model.specs.Walk.{Record, cuts, isEmpty, advance, tried, improved, outcome}
 use Rattle.model.specs.State.{stack, arrayOf, trailOf, isFound, bestOr, searchOf}

@@ -54,7 +54,7 @@ fn same_search(a: Search, b: Search) -> bool {
 }
 
 // Says whether a search is as it was.
-pub fn put_same(before: Search, after: Search) {
+pub(crate) fn put_same(before: Search, after: Search) {
     if same_search(before, after) {
         put(b" unchanged");
     } else {

@@ -201,7 +201,7 @@ fn all_cut() {
 }
 
 // Every damaged search in turn.
-pub fn all() {
+pub(crate) fn all() {
     let given = given_by(3, 2, 4, 2, b"0,0 0,1 1,0 2,1");
     let search = after(fresh(given), given, 20);
     sizes(search, given);

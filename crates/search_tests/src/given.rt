@@ -32,7 +32,7 @@ fn list_of(cells: &[u8]) -> [u8; 64] {
 }
 
 // A pattern and a cap, the nonzeros given by their cells.
-pub fn given_by(m: u64, n: u64, nonzeros: u64, cap: u64, cells: &[u8]) -> Given {
+pub(crate) fn given_by(m: u64, n: u64, nonzeros: u64, cap: u64, cells: &[u8]) -> Given {
     let list = list_of(cells);
     Given {
         m,
@@ -65,7 +65,7 @@ fn marks_of(letters: &[u8]) -> [u8; 240] {
 }
 
 // A marking given by its letters.
-pub fn trail_of(letters: &[u8]) -> Trail {
+pub(crate) fn trail_of(letters: &[u8]) -> Trail {
     let marks = marks_of(letters);
     Trail {
         marks,

@@ -6,21 +6,21 @@ use crate::saying::say;
 use model::Search;
 
 // A fresh search.
-pub fn fresh(given: Given) -> Search {
+pub(crate) fn fresh(given: Given) -> Search {
     let list = given.list;
     let opened = search::open(given.m, given.n, given.nonzeros, &list, given.cap);
     opened.search
 }
 
 // The search after a run.
-pub fn after(search: Search, given: Given, budget: u64) -> Search {
+pub(crate) fn after(search: Search, given: Given, budget: u64) -> Search {
     let list = given.list;
     let ran = search::run(search, given.m, given.n, given.nonzeros, &list, budget);
     ran.search
 }
 
 // The search after a run, whose answer is printed.
-pub fn piece(search: Search, given: Given, budget: u64) -> Search {
+pub(crate) fn piece(search: Search, given: Given, budget: u64) -> Search {
     let list = given.list;
     let ran = search::run(search, given.m, given.n, given.nonzeros, &list, budget);
     let next = ran.search;

@@ -73,7 +73,7 @@ fn budgets() {
 }
 
 // Every limit in turn.
-pub fn all() {
+pub(crate) fn all() {
     rows();
     columns();
     nonzeros();

@@ -75,7 +75,7 @@ fn past_the_end(given: Given) {
 }
 
 // Each way to the end of one search.
-pub fn all() {
+pub(crate) fn all() {
     let given = given_by(
         6,
         7,

@@ -176,7 +176,7 @@ fn buffers(given: Given) {
 }
 
 // Every refusal in turn.
-pub fn all() {
+pub(crate) fn all() {
     let given = given_by(3, 3, 3, 2, b"0,0 1,1 2,2");
     sizes();
     short_lists();

@@ -55,7 +55,7 @@ fn shortcuts() {
 }
 
 // Every sample in turn.
-pub fn all() {
+pub(crate) fn all() {
     caps();
     patterns();
     shortcuts();

@@ -10,13 +10,13 @@ use pattern::reading::byte_at;
 use pattern::refusals::refusal_number;
 
 // A word and a number.
-pub fn say(word: &[u8], x: u64) {
+pub(crate) fn say(word: &[u8], x: u64) {
     io::write_all(1, word);
     io::print_decimal(1, x);
 }
 
 // Words alone.
-pub fn put(words: &[u8]) {
+pub(crate) fn put(words: &[u8]) {
     io::write_all(1, words);
 }
 
@@ -32,7 +32,7 @@ fn put_mark(mark: u8) {
 }
 
 // The first marks or parts of some bytes.
-pub fn put_marks(bytes: &[u8], len: usize) {
+pub(crate) fn put_marks(bytes: &[u8], len: usize) {
     let mut i: usize = 0;
     while i < len {
         put_mark(byte_at(bytes, i));
@@ -52,13 +52,13 @@ fn put_trail(trail: Trail) {
 }
 
 // A refusal with its place.
-pub fn put_refused(word: Word, place: u64) {
+pub(crate) fn put_refused(word: Word, place: u64) {
     say(b" refused ", refusal_number(word));
     say(b" at ", place);
 }
 
 // What an opening answers.
-pub fn put_verdict(verdict: Verdict) {
+pub(crate) fn put_verdict(verdict: Verdict) {
     match verdict {
         Verdict::Accepted => put(b" accepted"),
         Verdict::Refused(word, place) => put_refused(word, place),
@@ -66,7 +66,7 @@ pub fn put_verdict(verdict: Verdict) {
 }
 
 // What an opening of a pattern answers, on a line of its own.
-pub fn put_opened(m: u64, n: u64, nonzeros: u64, cap: u64, list: &[u8]) {
+pub(crate) fn put_opened(m: u64, n: u64, nonzeros: u64, cap: u64, list: &[u8]) {
     let opened = search::open(m, n, nonzeros, list, cap);
     say(b"open ", m);
     say(b" ", n);
@@ -78,7 +78,7 @@ pub fn put_opened(m: u64, n: u64, nonzeros: u64, cap: u64, list: &[u8]) {
 }
 
 // What a run answers.
-pub fn put_run(answer: RunAnswer) {
+pub(crate) fn put_run(answer: RunAnswer) {
     match answer {
         RunAnswer::Complete => put(b" complete"),
         RunAnswer::Stopped => put(b" stopped"),
@@ -87,7 +87,7 @@ pub fn put_run(answer: RunAnswer) {
 }
 
 // What a showing answers, with the first bytes of its parts where it gives a split.
-pub fn put_show(answer: ShowAnswer, parts: &[u8], len: usize) {
+pub(crate) fn put_show(answer: ShowAnswer, parts: &[u8], len: usize) {
     match answer {
         ShowAnswer::Split { volume, floor } => {
             say(b" floor ", floor);
@@ -130,7 +130,7 @@ fn put_end(complete: bool) {
 }
 
 // A search's record.
-pub fn put_numbers(search: Search) {
+pub(crate) fn put_numbers(search: Search) {
     let best = search.best;
     let trail = search.trail;
     say(b"  tries ", search.tries);
@@ -143,7 +143,7 @@ pub fn put_numbers(search: Search) {
 }
 
 // A search's record and what is shown of it, on a line of its own.
-pub fn put_search(search: Search, given: Given) {
+pub(crate) fn put_search(search: Search, given: Given) {
     put_numbers(search);
     put_shown(search, given);
     put(b"\n");

@@ -30,7 +30,7 @@ fn go_on(search: Search, given: Given, budget: u64) -> Search {
 }
 
 // The walk of a pattern from a fresh search until it is complete.
-pub fn walk_of(m: u64, n: u64, nonzeros: u64, cap: u64, cells: &[u8]) {
+pub(crate) fn walk_of(m: u64, n: u64, nonzeros: u64, cap: u64, cells: &[u8]) {
     put_pattern(m, n, nonzeros, cap, cells);
     let given = given_by(m, n, nonzeros, cap, cells);
     let list = given.list;
@@ -131,7 +131,7 @@ fn walks_6() {
 }
 
 // Every walk in turn.
-pub fn all() {
+pub(crate) fn all() {
     walks_1();
     walks_2();
     walks_3();

@@ -3,12 +3,12 @@ use answering::splitting::answer;
 use pattern::reading::put;
 
 // Bytes as they are.
-pub fn say(bytes: &[u8]) {
+pub(crate) fn say(bytes: &[u8]) {
     io::write_all(1, bytes);
 }
 
 // The name of an input, on a line of its own.
-pub fn say_name(name: &[u8]) {
+pub(crate) fn say_name(name: &[u8]) {
     say(b"# ");
     say(name);
     say(b"\n");
@@ -27,7 +27,7 @@ fn after(at: usize) -> usize {
 }
 
 // Bytes laid out in a page from a place on, and the place after them. What falls past the page's end is left out.
-pub fn lay(page: &mut [u8], at: usize, bytes: &[u8]) -> usize {
+pub(crate) fn lay(page: &mut [u8], at: usize, bytes: &[u8]) -> usize {
     let mut next = at;
     let mut i: usize = 0;
     while i < bytes.len() {
@@ -39,7 +39,7 @@ pub fn lay(page: &mut [u8], at: usize, bytes: &[u8]) -> usize {
 }
 
 // The answer to an input, with room for the longest one.
-pub fn whole(name: &[u8], input: &[u8]) {
+pub(crate) fn whole(name: &[u8], input: &[u8]) {
     let mut out = [0u8; 32768];
     let len = answer(input, &mut out);
     say_name(name);
@@ -47,14 +47,14 @@ pub fn whole(name: &[u8], input: &[u8]) {
 }
 
 // The answer to the first bytes of a page.
-pub fn start(name: &[u8], page: &[u8], len: usize) {
+pub(crate) fn start(name: &[u8], page: &[u8], len: usize) {
     if len <= page.len() {
         whole(name, &page[0..len]);
     }
 }
 
 // A first line, and a pattern text by what follows its own first line.
-pub fn pattern(name: &[u8], line: &[u8], body: &[u8]) {
+pub(crate) fn pattern(name: &[u8], line: &[u8], body: &[u8]) {
     let mut page = [0u8; 256];
     let text = lay(&mut page, 0, line);
     let next = lay(
@@ -67,7 +67,7 @@ pub fn pattern(name: &[u8], line: &[u8], body: &[u8]) {
 }
 
 // The same with an integer text.
-pub fn integer(name: &[u8], line: &[u8], body: &[u8]) {
+pub(crate) fn integer(name: &[u8], line: &[u8], body: &[u8]) {
     let mut page = [0u8; 256];
     let text = lay(&mut page, 0, line);
     let next = lay(
@@ -80,11 +80,11 @@ pub fn integer(name: &[u8], line: &[u8], body: &[u8]) {
 }
 
 // A first line before the 2 by 2 diagonal.
-pub fn diagonal(name: &[u8], line: &[u8]) {
+pub(crate) fn diagonal(name: &[u8], line: &[u8]) {
     pattern(name, line, b"2 2 2\n2 2\n1 1\n");
 }
 
 // A first line before a single nonzero.
-pub fn single(name: &[u8], line: &[u8]) {
+pub(crate) fn single(name: &[u8], line: &[u8]) {
     pattern(name, line, b"1 1 1\n1 1\n");
 }

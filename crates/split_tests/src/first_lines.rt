@@ -3,7 +3,7 @@ use crate::asking::diagonal;
 use crate::asking::whole;
 
 // Inputs that end within the first line, and line ends of other kinds.
-pub fn ends() {
+pub(crate) fn ends() {
     whole(b"empty input", b"");
     whole(b"a line feed alone", b"\n");
     whole(b"no LF", b"percent 0 budget 100");
@@ -20,7 +20,7 @@ pub fn ends() {
 }
 
 // Blanks too many, of another kind or missing.
-pub fn blanks() {
+pub(crate) fn blanks() {
     diagonal(b"blank first", b" percent 0 budget 100\n");
     diagonal(b"two spaces before E", b"percent  0 budget 100\n");
     diagonal(b"two spaces after E", b"percent 0  budget 100\n");
@@ -35,7 +35,7 @@ pub fn blanks() {
 }
 
 // Numbers missing or of other forms.
-pub fn numbers() {
+pub(crate) fn numbers() {
     diagonal(b"E missing", b"percent budget 100\n");
     diagonal(b"E missing between spaces", b"percent  budget 100\n");
     diagonal(b"B missing", b"percent 0 budget\n");
@@ -52,7 +52,7 @@ pub fn numbers() {
 }
 
 // Other words.
-pub fn words() {
+pub(crate) fn words() {
     diagonal(b"upper case in the first word", b"Percent 0 budget 100\n");
     diagonal(b"upper case in the second word", b"percent 0 BUDGET 100\n");
     diagonal(b"first word misspelt", b"precent 0 budget 100\n");
@@ -66,7 +66,7 @@ pub fn words() {
 }
 
 // Forms that are accepted.
-pub fn accepted() {
+pub(crate) fn accepted() {
     diagonal(b"leading zeros", b"percent 000000003 budget 000000100\n");
     diagonal(b"zeros alone", b"percent 000000000 budget 000000000\n");
     whole(b"first line without a text", b"percent 0 budget 100\n");

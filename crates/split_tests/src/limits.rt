@@ -6,7 +6,7 @@ use crate::asking::single;
 use crate::asking::start;
 
 // Percentages, and the caps that they give.
-pub fn percentages() {
+pub(crate) fn percentages() {
     diagonal(b"percentage 100", b"percent 100 budget 0\n");
     diagonal(b"percentage 101", b"percent 101 budget 100\n");
     diagonal(
@@ -23,7 +23,7 @@ pub fn percentages() {
 }
 
 // Budgets.
-pub fn budgets() {
+pub(crate) fn budgets() {
     diagonal(b"budget 1000000", b"percent 0 budget 1000000\n");
     diagonal(b"budget 1000001", b"percent 0 budget 1000001\n");
     diagonal(b"budget of nine digits", b"percent 0 budget 999999999\n");
@@ -76,7 +76,7 @@ fn lines_last() {
 }
 
 // Texts of 65,536 bytes and one more.
-pub fn lengths() {
+pub(crate) fn lengths() {
     blanks_last();
     comment_first();
     lines_last();

@@ -39,7 +39,7 @@ fn diagonal_within(name: &[u8], room: usize) {
 }
 
 // Refusals and "none yet".
-pub fn lines() {
+pub(crate) fn lines() {
     within(b"refusal into 120 bytes", b"", 120);
     within(b"refusal into 15 bytes", b"", 15);
     within(b"refusal into 8 bytes", b"", 8);
@@ -52,7 +52,7 @@ pub fn lines() {
 }
 
 // A text, which is written whole or refused with 9.
-pub fn splits() {
+pub(crate) fn splits() {
     diagonal_within(b"split into 120 bytes", 120);
     diagonal_within(b"split into 110 bytes", 110);
     diagonal_within(b"split into 109 bytes", 109);

@@ -6,7 +6,7 @@ use crate::asking::single;
 use crate::asking::whole;
 
 // Searches that end within their budget.
-pub fn complete() {
+pub(crate) fn complete() {
     whole(
         b"the worked listing",
         b"percent 0 budget 100\n%%MatrixMarket matrix coordinate pattern general\n2 2 2\n2 2\n1 1\n",
@@ -36,7 +36,7 @@ pub fn complete() {
 }
 
 // Searches that stop with a split.
-pub fn stopped() {
+pub(crate) fn stopped() {
     diagonal(b"stopped one try before the end", b"percent 0 budget 10\n");
     diagonal(b"stopped at the first split", b"percent 0 budget 6\n");
     pattern(
@@ -52,7 +52,7 @@ pub fn stopped() {
 }
 
 // Searches that stop without a split.
-pub fn none_yet() {
+pub(crate) fn none_yet() {
     diagonal(b"none yet after 3 tries", b"percent 0 budget 3\n");
     diagonal(b"none yet after 5 tries", b"percent 0 budget 5\n");
     diagonal(b"none yet after no try", b"percent 0 budget 0\n");
@@ -64,7 +64,7 @@ pub fn none_yet() {
 }
 
 // Texts of other forms that are read.
-pub fn other_texts() {
+pub(crate) fn other_texts() {
     integer(
         b"integer text, parts unused",
         b"percent 0 budget 100\n",

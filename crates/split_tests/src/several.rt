@@ -5,7 +5,7 @@ use crate::asking::single;
 use crate::asking::whole;
 
 // From the first check to the last.
-pub fn wrong_at_once() {
+pub(crate) fn wrong_at_once() {
     whole(
         b"form before banner",
         b"percent 0 budget 100 \n%%MatrixMarket matrix array real general\n",

@@ -4,7 +4,7 @@ use crate::asking::pattern;
 use crate::asking::whole;
 
 // Refusals 1, 2 and 4.
-pub fn first_and_size_lines() {
+pub(crate) fn first_and_size_lines() {
     whole(
         b"banner",
         b"percent 0 budget 100\n%%MatrixMarket matrix coordinate real general\n2 2 2\n2 2\n1 1\n",
@@ -29,7 +29,7 @@ pub fn first_and_size_lines() {
 }
 
 // Refusals 3, 5, 6, 7 and 8.
-pub fn entries() {
+pub(crate) fn entries() {
     let line = b"percent 0 budget 100\n";
     pattern(b"entry form", line, b"2 2 2\n1 1\nx\n");
     pattern(b"off matrix", line, b"2 2 2\n1 1\n3 1\n");

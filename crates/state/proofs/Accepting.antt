@@ -4,17 +4,16 @@ use mathlib.Core.Bool.{Bool, true, false, not}
 use mathlib.Core.List.{List, [], _∷_}
 use mathlib.Core.Option.{Option, some, none}
 use mathlib.Core.Path.{_≡_, refl, sym, _∙_, ap}
-use Prim.Native.Nat.{ℕ, suc, _+_, _*_, _≤_, _<_}
+use Prim.Native.Nat.{ℕ, _*_, _≤_}
 use native.Mathlib.Omega.{arith}
-use lib.Dec.{eqb, ltb, leb}
+use lib.Dec.{eqb, leb}
 use lib.ListN.{length, getD}
 use borrow.Author.Tests.{leb-true, eqb-true}
-use Rattle.counting.specs.Tests.{_and_, _or_}
+use Rattle.counting.specs.Tests.{_and_}
 use Rattle.counting.proofs.Joined.{no-way, clash, and-left, and-right}
-use Rattle.model.specs.declared.Verdict.{Verdict}
-use Rattle.model.specs.declared.Verdict.the-variants.{Accepted, Refused}
+use Rattle.model.specs.declared.Verdict.the-variants.{Accepted}
 use Rattle.model.specs.declared.Search.{Search}
-use Rattle.model.specs.Limits.{lineLimit, capLimit, triesLimit, budgetLimit}
+use Rattle.model.specs.Limits.{lineLimit}
 use Rattle.model.specs.Pattern.{Pattern, patternOf, lineTotal}
 use Rattle.model.specs.Walk.{Record, Rules, rulesOf, cuts, isEmpty}
 use Rattle.model.specs.State.{marksIn, bestIn, recordOf, searchOf, areMarks, startsWithZero, beginningsValid, trailFine, bestFine, stateFine}

@@ -1,17 +1,16 @@
 -- The number of marks cut, one mark more.
 -- Assumes nothing.
-use mathlib.Core.Bool.{Bool, true, false}
-use mathlib.Core.List.{List, [], _∷_}
-use mathlib.Core.Path.{_≡_, refl, sym, _∙_, ap}
-use Prim.Native.Nat.{ℕ, zero, suc, _+_, _≤_, _<_}
+use mathlib.Core.List.{List}
+use mathlib.Core.Path.{_≡_, refl, _∙_, ap}
+use Prim.Native.Nat.{ℕ, _+_}
 use native.Mathlib.Numerals.{add-one}
 use native.Mathlib.Omega.{arith}
-use lib.Dec.{eqb, ltb}
-use borrow.Author.Tests.{eq-eqb, ne-eqb, lt-ltb}
-use Rattle.counting.proofs.Joined.{no-way, bit-true, bit-false, pick-true}
-use Rattle.model.specs.Walk.{Record, cuts, isEmpty, advance, tried, improved, outcome}
-use Rattle.model.specs.State.{stack, arrayOf, trailOf, isFound, bestOr, searchOf}
-use Rattle.marking.specs.Stack.{stackOf, cell, appended, advanced}
+use lib.Dec.{eqb}
+use borrow.Author.Tests.{eq-eqb, ne-eqb}
+use Rattle.counting.proofs.Joined.{bit-true, bit-false}
+use Rattle.model.specs.Walk.{cuts}
+use Rattle.model.specs.State.{stack}
+use Rattle.marking.specs.Stack.{cell}
 use Rattle.state.specs.Legal.{cutsIn}
 
 -- no cuts before the first mark

@@ -1,13 +1,11 @@
 -- Laws of what a reading answers and gives.
 -- Assumes nothing.
-use mathlib.Core.Bool.{Bool, true, false, not}
+use mathlib.Core.Bool.{true, false}
 use mathlib.Core.List.{List}
 use mathlib.Core.Path.{_≡_, refl, sym, _∙_, ap}
 use Prim.Native.Nat.{ℕ, _*_, _≤_}
 use native.Mathlib.Omega.{arith}
-use lib.Dec.{ltb}
 use lib.ListN.{length}
-use Rattle.counting.specs.Tests.{pick}
 use Rattle.counting.proofs.Joined.{pick-true, pick-false}
 use Rattle.model.specs.declared.Word.{Word}
 use Rattle.model.specs.declared.Verdict.{Verdict}
@@ -15,6 +13,7 @@ use Rattle.model.specs.declared.Verdict.the-variants.{Accepted, Refused}
 use Rattle.model.specs.Limits.{lineLimit}
 use Rattle.model.specs.Refusal.{_then_}
 use Rattle.model.specs.Calls.{sizesVerdict}
+use Rattle.model.proofs.Theorems.Accepted.{then-second}
 use Rattle.pattern.proofs.Verdicts.{then-accepted, then-refused, then-first, rows-small}
 use Rattle.scanning.specs.Checks.{moved}
 use Rattle.texts.specs.declared.Header.{Header}
@@ -23,12 +22,6 @@ use Rattle.texts.specs.declared.ReadAnswer.the-variants as read-answer
 use Rattle.texts.specs.Header.{headerOf, headVerdict}
 use Rattle.texts.specs.Entries.{noCells, Entries, entriesFrom}
 use Rattle.texts.specs.Reading.{listed, parted, givenParts, entriesBelow, answerAfter, outputAfter, listAfter, partsAfter, textVerdict, readVerdict, readCall, readList, readParts}
-
--- the second of two checks that refuse nothing refuses nothing
-pub then-second : (u v : Verdict) → (u then v) ≡ Accepted → v ≡ Accepted
-unfolding _then_
-then-second Accepted v h = h
-then-second (Refused word place) v h = let z : _≡_ {A = ℕ} 0 1 = cc in absurd (omega arith)
 
 moved-fine : (v : Verdict) (place : ℕ) → moved v place ≡ Accepted → v ≡ Accepted
 unfolding moved

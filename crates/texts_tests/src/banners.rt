@@ -12,7 +12,7 @@ fn first_line(name: &[u8], line: &[u8]) {
 }
 
 // Texts that are refused for how their first line starts.
-pub fn other_starts() {
+pub(crate) fn other_starts() {
     whole(b"empty text", b"");
     whole(b"a line feed alone", b"\n");
     whole(
@@ -38,7 +38,7 @@ pub fn other_starts() {
 }
 
 // Texts whose first line has other words.
-pub fn other_words() {
+pub(crate) fn other_words() {
     first_line(b"array", b"%%MatrixMarket matrix array pattern general");
     first_line(b"real", b"%%MatrixMarket matrix coordinate real general");
     first_line(
@@ -64,7 +64,7 @@ pub fn other_words() {
 }
 
 // First lines that are accepted.
-pub fn read() {
+pub(crate) fn read() {
     whole(
         b"first line without LF",
         b"%%MatrixMarket matrix coordinate pattern general",

@@ -2,7 +2,7 @@
 use crate::reading::pattern;
 
 // Entries that are read.
-pub fn read() {
+pub(crate) fn read() {
     pattern(b"in order", b"2 2 2\n1 1\n2 2\n");
     pattern(b"out of order", b"2 3 4\n2 3\n1 2\n2 1\n1 1\n");
     pattern(b"no last LF", b"2 2 2\n2 2\n1 1");
@@ -17,7 +17,7 @@ pub fn read() {
 }
 
 // Lines that are no entry.
-pub fn forms() {
+pub(crate) fn forms() {
     pattern(b"one number", b"2 2 2\n1\n2 2\n");
     pattern(b"one number in the second entry", b"2 2 2\n1 1\n2\n");
     pattern(b"three numbers", b"2 2 1\n1 1 1\n");
@@ -34,7 +34,7 @@ pub fn forms() {
 }
 
 // Entries off the matrix and repeated ones.
-pub fn cells() {
+pub(crate) fn cells() {
     pattern(b"entry row 0", b"2 2 1\n0 1\n");
     pattern(b"entry column 0", b"2 2 1\n1 0\n");
     pattern(b"row over", b"2 3 1\n3 1\n");
@@ -48,7 +48,7 @@ pub fn cells() {
 }
 
 // Entries missing, and text after the last one.
-pub fn counts() {
+pub(crate) fn counts() {
     pattern(b"no entry", b"2 2 2\n");
     pattern(b"no entry and no LF", b"2 2 2");
     pattern(b"one missing", b"2 2 2\n1 1\n");

@@ -2,7 +2,7 @@
 use crate::reading::integer;
 
 // Parts that are read.
-pub fn read() {
+pub(crate) fn read() {
     integer(b"integer in order", b"2 2 2\n1 1 1\n2 2 2\n");
     integer(
         b"integer out of order",
@@ -13,7 +13,7 @@ pub fn read() {
 }
 
 // Entries that are refused.
-pub fn refused() {
+pub(crate) fn refused() {
     integer(b"part missing", b"2 2 1\n1 1\n");
     integer(b"four numbers", b"2 2 1\n1 1 1 1\n");
     integer(b"part 0", b"2 2 1\n1 1 0\n");

@@ -24,7 +24,7 @@ fn two_parted(name: &[u8], listed: usize, parted: usize) {
 }
 
 // Slices just long enough and one byte shorter.
-pub fn slices() {
+pub(crate) fn slices() {
     two(b"list just long enough", 4, 0);
     two(b"list one byte short", 3, 4);
     two(b"empty list", 0, 0);
@@ -85,7 +85,7 @@ fn comment_first() {
 }
 
 // Texts of 65,536 bytes and one more.
-pub fn lengths() {
+pub(crate) fn lengths() {
     blanks_last();
     lines_between();
     comment_first();

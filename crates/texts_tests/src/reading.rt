@@ -11,7 +11,7 @@ fn after(at: usize) -> usize {
 }
 
 // Bytes laid out in a page from a place on, and the place after them. What falls past the page's end is left out.
-pub fn lay(page: &mut [u8], at: usize, bytes: &[u8]) -> usize {
+pub(crate) fn lay(page: &mut [u8], at: usize, bytes: &[u8]) -> usize {
     let mut next = at;
     let mut i: usize = 0;
     while i < bytes.len() {
@@ -33,7 +33,7 @@ fn read_into(name: &[u8], text: &[u8], list: &mut [u8], parts: &mut [u8]) {
 }
 
 // A text read into slices of these lengths, at most 8 bytes for the list and 4 for the parts.
-pub fn read_within(name: &[u8], text: &[u8], listed: usize, parted: usize) {
+pub(crate) fn read_within(name: &[u8], text: &[u8], listed: usize, parted: usize) {
     let mut list = [9u8; 8];
     let mut parts = [9u8; 4];
     if listed <= 8 {
@@ -44,19 +44,19 @@ pub fn read_within(name: &[u8], text: &[u8], listed: usize, parted: usize) {
 }
 
 // A text read into a list of 8 bytes and parts of 4.
-pub fn whole(name: &[u8], text: &[u8]) {
+pub(crate) fn whole(name: &[u8], text: &[u8]) {
     read_within(name, text, 8, 4);
 }
 
 // The first bytes of a page read as a text.
-pub fn start(name: &[u8], page: &[u8], len: usize) {
+pub(crate) fn start(name: &[u8], page: &[u8], len: usize) {
     if len <= page.len() {
         whole(name, &page[0..len]);
     }
 }
 
 // A pattern text, by what follows its first line.
-pub fn pattern(name: &[u8], body: &[u8]) {
+pub(crate) fn pattern(name: &[u8], body: &[u8]) {
     let mut page = [0u8; 256];
     let next = lay(
         &mut page,
@@ -68,7 +68,7 @@ pub fn pattern(name: &[u8], body: &[u8]) {
 }
 
 // An integer text, by what follows its first line.
-pub fn integer(name: &[u8], body: &[u8]) {
+pub(crate) fn integer(name: &[u8], body: &[u8]) {
     let mut page = [0u8; 256];
     let next = lay(
         &mut page,

@@ -6,12 +6,12 @@ use texts::ReadAnswer;
 use writing::WriteAnswer;
 
 // Words as they are.
-pub fn say(words: &[u8]) {
+pub(crate) fn say(words: &[u8]) {
     io::write_all(1, words);
 }
 
 // The first words where a test passes, and the others where it fails.
-pub fn say_which(test: bool, first: &[u8], others: &[u8]) {
+pub(crate) fn say_which(test: bool, first: &[u8], others: &[u8]) {
     if test {
         say(first);
     } else {
@@ -20,7 +20,7 @@ pub fn say_which(test: bool, first: &[u8], others: &[u8]) {
 }
 
 // Words and a number.
-pub fn say_number(words: &[u8], x: u64) {
+pub(crate) fn say_number(words: &[u8], x: u64) {
     io::write_all(1, words);
     io::print_decimal(1, x);
 }
@@ -32,7 +32,7 @@ fn say_refused(word: Word, place: u64) {
 }
 
 // Sizes and format, or a refusal.
-pub fn say_read(answer: ReadAnswer) {
+pub(crate) fn say_read(answer: ReadAnswer) {
     match answer {
         ReadAnswer::Read {
             m,
@@ -50,7 +50,7 @@ pub fn say_read(answer: ReadAnswer) {
 }
 
 // The length of a text, or a refusal.
-pub fn say_written(answer: WriteAnswer) {
+pub(crate) fn say_written(answer: WriteAnswer) {
     match answer {
         WriteAnswer::Written(len) => say_number(b": written ", len),
         WriteAnswer::Refused(word, place) => say_refused(word, place),
@@ -58,7 +58,7 @@ pub fn say_written(answer: WriteAnswer) {
 }
 
 // Every byte from a place on is still 9.
-pub fn is_kept(bytes: &[u8], from: usize) -> bool {
+pub(crate) fn is_kept(bytes: &[u8], from: usize) -> bool {
     let mut i = from;
     while i < bytes.len() {
         if bytes[i] != 9 {
@@ -70,7 +70,7 @@ pub fn is_kept(bytes: &[u8], from: usize) -> bool {
 }
 
 // The bytes of a slice as numbers, or that it kept them all.
-pub fn say_bytes(words: &[u8], bytes: &[u8]) {
+pub(crate) fn say_bytes(words: &[u8], bytes: &[u8]) {
     say(words);
     if is_kept(bytes, 0) {
         say(b" kept");

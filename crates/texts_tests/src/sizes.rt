@@ -2,7 +2,7 @@
 use crate::reading::pattern;
 
 // Size lines that are missing or not three numbers.
-pub fn refused() {
+pub(crate) fn refused() {
     pattern(b"comments alone", b"% a\n%\n");
     pattern(b"two sizes", b"2 2\n");
     pattern(b"four sizes", b"2 2 0 0\n");
@@ -19,7 +19,7 @@ pub fn refused() {
 }
 
 // Size lines that are read.
-pub fn read() {
+pub(crate) fn read() {
     pattern(b"nine digits", b"000000002 2 0\n");
     pattern(b"comments and empty lines", b"%\n\n \t\n% b\n\r\n2 2 0\n");
     pattern(
@@ -32,7 +32,7 @@ pub fn read() {
 }
 
 // Sizes within their ranges and outside.
-pub fn ranges() {
+pub(crate) fn ranges() {
     pattern(b"no row", b"0 2 0\n");
     pattern(b"no column", b"2 0 0\n");
     pattern(b"row 120", b"120 1 1\n120 1\n");

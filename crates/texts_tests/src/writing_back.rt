@@ -47,7 +47,7 @@ fn figures(volume: u64, cap: u64, tries: u64, floor: u64, complete: u64) -> Figu
 }
 
 // Splits written and read back.
-pub fn texts() {
+pub(crate) fn texts() {
     let most = u64::MAX;
     back(
         2,
@@ -115,7 +115,7 @@ fn compare(text: &[u8], list: &[u8], parts: &[u8]) {
 }
 
 // The most nonzeros written and read back.
-pub fn largest() {
+pub(crate) fn largest() {
     let mut list = [9u8; 4000];
     let mut parts = [9u8; 2000];
     fill(&mut list, &mut parts);

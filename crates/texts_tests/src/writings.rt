@@ -60,7 +60,7 @@ fn split(name: &[u8], m: u64, n: u64, nonzeros: u64, list: &[u8], parts: &[u8]) 
 }
 
 // Sizes outside their ranges, and short slices.
-pub fn sizes() {
+pub(crate) fn sizes() {
     split(b"write no row", 0, 2, 0, b"", b"");
     split(b"write 121 rows", 121, 2, 0, b"", b"");
     split(b"write no column", 2, 0, 0, b"", b"");
@@ -87,7 +87,7 @@ pub fn sizes() {
 }
 
 // Nonzeros off the matrix, and not rising.
-pub fn places() {
+pub(crate) fn places() {
     split(b"write row over", 2, 3, 2, b"\x02\x00\x02\x01", b"\x00\x01");
     split(
         b"write column over",
@@ -117,7 +117,7 @@ pub fn places() {
 }
 
 // Part bytes above 1, and the order of a nonzero's checks.
-pub fn parts() {
+pub(crate) fn parts() {
     split(b"write part 2", 2, 2, 2, b"\x00\x00\x01\x01", b"\x02\x00");
     split(b"write part 255", 2, 2, 2, b"\x00\x00\x01\x01", b"\x00\xff");
     split(
@@ -152,7 +152,7 @@ fn diagonal(name: &[u8], parts: &[u8], room: usize) {
 }
 
 // Outputs of several lengths.
-pub fn outputs() {
+pub(crate) fn outputs() {
     diagonal(b"empty output", b"\x00\x01", 0);
     diagonal(b"output one byte short", b"\x00\x01", 109);
     diagonal(b"output just long enough", b"\x00\x01", 110);

@@ -8,3 +8,4 @@ pub mod Struck
 pub mod Weighed
 pub mod Whole
 pub mod Runs
+pub mod ByRuns

@@ -1,8 +1,8 @@
 -- A list whose nonzeros are accepted, checks 5 and 10: its nonzeros lie in the matrix, and their rows rise.
 -- Assumes nothing.
-use mathlib.Core.Bool.{Bool, true, false}
+use mathlib.Core.Bool.{true, false}
 use mathlib.Core.List.{List}
-use mathlib.Core.Path.{_≡_, refl, _∙_, ap}
+use mathlib.Core.Path.{_≡_, _∙_, ap}
 use mathlib.Core.Logic.{⊎-elim}
 use Prim.Native.Nat.{ℕ, zero, suc, _<_}
 use native.Mathlib.Nat.{eq-or-lt-of-le, le-of-suc-le-suc}
@@ -11,31 +11,11 @@ use lib.Dec.{leb}
 use borrow.Author.Tests.{ltb-true, leb-false, eqb-true, not-false}
 use Rattle.counting.specs.Tests.{_or_}
 use Rattle.counting.proofs.Joined.{no-way, and-left, or-cases, or-fails-left, or-fails-right}
-use Rattle.model.specs.declared.Word.{Word}
-use Rattle.model.specs.declared.Verdict.{Verdict}
-use Rattle.model.specs.declared.Verdict.the-variants.{Accepted, Refused}
-use Rattle.model.specs.Refusal.{refuse, _then_}
+use Rattle.model.specs.declared.Verdict.the-variants.{Accepted}
 use Rattle.model.specs.Pattern.{Inside, patternOf, rowIn, columnIn}
 use Rattle.model.specs.Calls.{rises, entryVerdict, entriesVerdict}
+use Rattle.model.proofs.Theorems.Accepted.{then-first, then-second, refuse-not}
 use Rattle.matching.proofs.Rows.Sorted.{Rising, Sorted, sorted-rising}
-
--- two checks that refuse nothing: the first does not
-then-first : (a b : Verdict) → (a then b) ≡ Accepted → a ≡ Accepted
-unfolding _then_
-then-first Accepted b e = refl
-then-first (Refused word place) b e = e
-
--- nor the second
-then-second : (a b : Verdict) → (a then b) ≡ Accepted → b ≡ Accepted
-unfolding _then_
-then-second Accepted b e = e
-then-second (Refused word place) b e = cc
-
--- a check that refuses nothing
-refuse-fails : (b : Bool) (word : Word) (place : ℕ) → refuse b word place ≡ Accepted → b ≡ false
-unfolding refuse
-refuse-fails true word place e = cc
-refuse-fails false word place e = refl
 
 -- each nonzero is accepted
 entry-accepted :
@@ -53,13 +33,13 @@ module _ (m n nonzeros : ℕ) (list : List ℕ) (accepted : entriesVerdict m n l
   -- nonzero t is not off the matrix
   on-matrix : (t : ℕ) → t < nonzeros → leb m (rowIn list t) or leb n (columnIn list t) ≡ false
   unfolding entryVerdict
-  on-matrix t b = refuse-fails _ _ _ (then-first _ _ (entry-accepted m n list nonzeros t accepted b))
+  on-matrix t b = refuse-not _ _ _ (then-first _ _ (entry-accepted m n list nonzeros t accepted b))
 
   -- and comes after the one before it
   in-order : (t : ℕ) → t < nonzeros → rises list t ≡ true
   unfolding entryVerdict
   in-order t b =
-      not-false (rises list t) (refuse-fails _ _ _ (then-second _ _ (entry-accepted m n list nonzeros t accepted b)))
+      not-false (rises list t) (refuse-not _ _ _ (then-second _ _ (entry-accepted m n list nonzeros t accepted b)))
 
   pub accepted-inside : Inside (patternOf m n nonzeros list)
   unfolding patternOf

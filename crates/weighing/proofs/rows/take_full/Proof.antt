@@ -7,7 +7,7 @@ use native.Mathlib.Omega.{arith}
 use Rattle.model.specs.Pattern.{patternOf}
 use Rattle.weighing.specs.Cells.{markingIn}
 use Rattle.weighing.specs.Rows.{OpenTo}
-use Rattle.weighing.proofs.Runs.{open-start, open-end, open-small}
+use Rattle.weighing.proofs.ByRuns.{open-start, open-end, open-small}
 use Rattle.weighing.proofs.rows.take_full.Statement.{statement}
 use Rattle.weighing.proofs.rows.take_full.Tie as tie
 

@@ -3,7 +3,7 @@
 use borrow.Author.Needs.{needs}
 use borrow.Author.Tests.{leb-true}
 use mathlib.Core.Path.{_≡_, sym, _∙_}
-use Rattle.weighing.proofs.Runs.{open-all}
+use Rattle.weighing.proofs.ByRuns.{open-all}
 use Rattle.weighing.proofs.rows.take_lines.Statement.{statement}
 use Rattle.weighing.proofs.rows.take_lines.Tie as tie
 

@@ -8,7 +8,8 @@ use lib.Dec.{eqb, ltb}
 use lib.ListN.{getD}
 use Rattle.counting.specs.Tests.{_and_, pick}
 use Rattle.weighing.specs.Cells.{markingIn}
-use Rattle.weighing.proofs.Runs.{run-moves, zero-row, one-row, open-row, open-named, not-part}
+use Rattle.weighing.proofs.Runs.{run-moves}
+use Rattle.weighing.proofs.ByRuns.{zero-row, one-row, open-row, open-named, not-part}
 use Rattle.weighing.proofs.rows.take_row.Statement.{statement}
 use Rattle.weighing.proofs.rows.take_row.Tie as tie
 
