@@ -37,11 +37,11 @@ module _ (text list parts : List ℕ) (accepted : readVerdict text list parts �
   unfolding readVerdict textVerdict
   head-fine = then-first _ _ accepted
 
-  below-fine : entriesFrom text h (length text) (h .next) 0 noCells .verdict ≡ Accepted
+  pub below-fine : entriesFrom text h (length text) (h .next) 0 noCells .verdict ≡ Accepted
   unfolding readVerdict entriesBelow
   below-fine = then-second _ _ accepted
 
-  sizes : sizesVerdict (h .m) (h .n) (h .nonzeros) ≡ Accepted
+  pub sizes : sizesVerdict (h .m) (h .n) (h .nonzeros) ≡ Accepted
   sizes = head-sizes h (length text) (length list) (length parts) head-fine
 
   rooms : ltb (length list) (2 * h .nonzeros) or (h .integer and ltb (length parts) (h .nonzeros)) ≡ false
@@ -62,7 +62,7 @@ module _ (text list parts : List ℕ) (accepted : readVerdict text list parts �
   abbrev cells : List ℕ
   cells = entriesFrom text h (length text) (h .next) 0 noCells .cells
 
-  entered : Entered (h .m) (h .n) cells (h .nonzeros)
+  pub entered : Entered (h .m) (h .n) cells (h .nonzeros)
   entered =
       entries-entered
       text
@@ -88,10 +88,10 @@ module _ (text list parts : List ℕ) (accepted : readVerdict text list parts �
       (below-parts text h noCells cells (entriesFrom text h (length text) (h .next) 0 noCells .verdict) refl refl refl parts (parted cells (120 * h .m) parts) below-fine
       (parts-integer h cells parts (parted cells (120 * h .m) parts) (h .m) i refl refl))
 
-  gives-list : GivesList cells (120 * h .m) (readList text list parts)
+  pub gives-list : GivesList cells (120 * h .m) (readList text list parts)
   gives-list = rw list-is at (gives-listed cells list (120 * h .m) (omega (arith, entered .total, list-room)))
 
-  gives-parts : h .integer ≡ true → GivesParts cells (120 * h .m) (readParts text list parts)
+  pub gives-parts : h .integer ≡ true → GivesParts cells (120 * h .m) (readParts text list parts)
   gives-parts i = rw (parts-are i) at (gives-parted cells parts (120 * h .m) (omega (arith, entered .total, parts-room i)))
 
   list-length : 2 * h .nonzeros ≤ length (readList text list parts)
@@ -125,14 +125,14 @@ module _ (text list parts : List ℕ) (accepted : readVerdict text list parts �
       (λ t l. then-accepted _ (entry-accepted entered gives-list t l) ∙ part-accepted entered (gives-parts i) t l)
 
 -- what an answer tells of the verdict and the header
-record Answered (v : Verdict) (h : Header) (m n nonzeros : ℕ) (integer : Bool) : Type 0 where
-  accepted : v ≡ Accepted
-  m-is : h .m ≡ m
-  n-is : h .n ≡ n
-  nonzeros-are : h .nonzeros ≡ nonzeros
-  integer-is : h .integer ≡ integer
+pub record Answered (v : Verdict) (h : Header) (m n nonzeros : ℕ) (integer : Bool) : Type 0 where
+  pub accepted : v ≡ Accepted
+  pub m-is : h .m ≡ m
+  pub n-is : h .n ≡ n
+  pub nonzeros-are : h .nonzeros ≡ nonzeros
+  pub integer-is : h .integer ≡ integer
 
-answered :
+pub answered :
     (v : Verdict) (h : Header) (m n nonzeros : ℕ) (integer : Bool) → answerAfter v h ≡ read-answer.Read m n nonzeros integer →
     Answered v h m n nonzeros integer
 unfolding answerAfter

@@ -6,10 +6,9 @@ use mathlib.Core.Path.{_≡_, refl, sym, _∙_, ap}
 use Prim.Native.Nat.{ℕ, zero, suc, _+_, _*_, _^_, _≤_, _<_}
 use native.Mathlib.Numerals.{add-one}
 use native.Mathlib.Omega.{arith}
-use lib.Dec.{eqb}
 use lib.ListN.{length, getD, set}
-use borrow.Author.Tests.{eqb-true, eqb-false, ne-eqb, lt-leb, le-ltb}
-use Rattle.counting.proofs.Joined.{by-test, fails, or-fails, pick-true, pick-false}
+use borrow.Author.Tests.{ne-eqb, lt-leb, le-ltb}
+use Rattle.counting.proofs.Joined.{fails, or-fails, pick-false}
 use Rattle.model.specs.declared.Word.the-variants.{EntryForm, OffMatrix, Repeated, Count, BadPart}
 use Rattle.model.specs.declared.Verdict.the-variants.{Accepted}
 use Rattle.model.specs.Pattern.{rowIn, columnIn}
@@ -25,7 +24,7 @@ use Rattle.writing.proofs.Held.{Holds}
 use Rattle.writing.proofs.Back.{lineOver, sizes-length}
 use Rattle.writing.proofs.Rows.{row-next, row-filled, row-numbers}
 use Rattle.readback.proofs.Rising.{rising}
-use Rattle.readback.proofs.Table.{tableOf, table-given}
+use Rattle.readback.proofs.Table.{tableOf, table-given, cell-is, mark-is}
 use Rattle.readback.proofs.Accepted.{cellIn, Fine}
 use Rattle.readback.proofs.Lines.{entries-none, entries-length, entries-rise, held-entry}
 
@@ -50,18 +49,6 @@ headOf m n nonzeros at start =
 inside-range : (limit x : ℕ) → x < limit → outside limit (x + 1) ≡ false
 unfolding outside
 inside-range limit x l = or-fails (ne-eqb (x + 1) 0 (λ e. omega arith)) (le-ltb limit (x + 1) (omega arith))
-
-cell-is : (i j : ℕ) → cellOf (i + 1) (j + 1) ≡ 120 * i + j
-unfolding cellOf
-cell-is i j = omega arith
-
-mark-is : (part : ℕ) → part ≤ 1 → cellMark (part + 1) ≡ part + 1
-unfolding cellMark
-mark-is part l =
-    by-test
-    (eqb (part + 1) 1)
-    (λ e. pick-true 1 2 e ∙ sym (eqb-true (part + 1) 1 e))
-    (λ e. let ne = eqb-false (part + 1) 1 e in pick-false 1 2 e ∙ omega arith)
 
 module _
     (text : List ℕ) {m n nonzeros : ℕ} {list parts : List ℕ} (split : Fine m n nonzeros list parts) (at start : ℕ)
@@ -150,7 +137,7 @@ module _
         (pick-false (table t) _ filled
         ∙ ap (λ (e : Numbers). set (table t) (cellOf (e .first) (e .second)) (cellMark (e .third))) entry-back
         ∙ ap (λ c. set (table t) c (cellMark (getD parts t 0 + 1))) (cell-is (rowIn list t) (columnIn list t))
-        ∙ ap (set (table t) (cellIn list t)) (mark-is (getD parts t 0) (split .part-in t l)))
+        ∙ ap (set (table t) (cellIn list t)) (mark-is (getD parts t 0 + 1) (omega arith) (omega (arith, split .part-in t l))))
 
     one-more :
         entriesFrom text h (length text) (here (suc t)) (suc t) (table (suc t)) ≡ entriesFrom text h (length text) (here t) t (table t)

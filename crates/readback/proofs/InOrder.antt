@@ -32,7 +32,7 @@ each-fine check (suc n) h = then-accepted (check n) (each-fine check n (λ t l. 
 
 module _ {m n nonzeros : ℕ} {cells : List ℕ} (e : Entered m n cells nonzeros) where
   -- the cell of nonzero t
-  cell-of : (t : ℕ) → t < nonzeros → (p : ℕ) × (p < 120 * m) × (isGiven cells p ≡ true) × (count (isGiven cells) p ≡ t)
+  pub cell-of : (t : ℕ) → t < nonzeros → (p : ℕ) × (p < 120 * m) × (isGiven cells p ≡ true) × (count (isGiven cells) p ≡ t)
   cell-of t l = passed (isGiven cells) (120 * m) t (omega (arith, e .total))
 
   -- of two nonzeros the later has the later cell
@@ -46,13 +46,13 @@ module _ {m n nonzeros : ℕ} {cells : List ℕ} (e : Entered m n cells nonzeros
       (λ z. no-way (omega (arith, count-rise (isGiven cells) (b .0) (a .0) (ltb-false (a .0) (b .0) z), a .3, b .3)))
 
   module _ {list : List ℕ} (g : GivesList cells (120 * m) list) where
-    row-is : (t : ℕ) (l : t < nonzeros) → rowIn list t ≡ cell-of t l .0 / 120
+    pub row-is : (t : ℕ) (l : t < nonzeros) → rowIn list t ≡ cell-of t l .0 / 120
     unfolding rowIn
     row-is t l =
         let a = cell-of t l in
         ap (λ k. getD list (2 * k) 0) (sym (a .3)) ∙ g .row (a .0) (a .1) (a .2)
 
-    column-is : (t : ℕ) (l : t < nonzeros) → columnIn list t ≡ cell-of t l .0 % 120
+    pub column-is : (t : ℕ) (l : t < nonzeros) → columnIn list t ≡ cell-of t l .0 % 120
     unfolding columnIn
     column-is t l =
         let a = cell-of t l in

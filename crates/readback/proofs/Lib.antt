@@ -13,3 +13,7 @@ pub mod Entered
 pub mod Taken
 pub mod InOrder
 pub mod AnyText
+pub mod LinesBelow
+pub mod Noted
+pub mod AllNoted
+pub mod TextSays

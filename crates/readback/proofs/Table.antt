@@ -11,8 +11,8 @@ use lib.Dec.{ltb, eqb}
 use lib.ListN.{length, getD, set, replicate, length-set, length-replicate, getD-replicate, List·getD-eq-default}
 use lib.Seq.{getD-set-same, getD-set-other}
 use borrow.Author.Tests.{ltb-true, ltb-false, eqb-true, eqb-false, eq-eqb, ne-eqb}
-use Rattle.counting.proofs.Joined.{no-way, by-test, clash}
-use Rattle.texts.specs.Entries.{noCells, isGiven}
+use Rattle.counting.proofs.Joined.{no-way, by-test, clash, pick-true, pick-false}
+use Rattle.texts.specs.Entries.{cellOf, noCells, isGiven, cellMark}
 use Rattle.readback.proofs.Rising.{Rising, rising}
 
 -- the table after the first entries, entry t with its cell and its mark
@@ -26,6 +26,20 @@ cell-row i j l = mul-add-div {m = 120} (omega arith) i j ∙ omega (arith, div-e
 
 pub cell-column : (i j : ℕ) → j < 120 → (120 * i + j) % 120 ≡ j
 cell-column i j l = mul-add-mod-self-left 120 i j ∙ mod-eq-of-lt l
+
+-- the cell of a row and a column counted from 0
+pub cell-is : (i j : ℕ) → cellOf (i + 1) (j + 1) ≡ 120 * i + j
+unfolding cellOf
+cell-is i j = omega arith
+
+-- p is 1 or 2, and so is its mark
+pub mark-is : (p : ℕ) → 1 ≤ p → p ≤ 2 → cellMark p ≡ p
+unfolding cellMark
+mark-is p some few =
+    by-test
+    (eqb p 1)
+    (λ e. pick-true 1 2 e ∙ sym (eqb-true p 1 e))
+    (λ e. let ne = eqb-false p 1 e in pick-false 1 2 e ∙ omega arith)
 
 pub none-length : length noCells ≡ 14_400
 unfolding noCells

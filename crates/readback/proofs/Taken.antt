@@ -24,14 +24,14 @@ use Rattle.model.proofs.Theorems.Accepted.{then-second, refuse-not}
 use Rattle.readback.proofs.Entered.{Entered, entered-more}
 
 -- a number in its range
-in-range : (limit x : ℕ) → outside limit x ≡ false → (1 ≤ x) × (x ≤ limit)
+pub in-range : (limit x : ℕ) → outside limit x ≡ false → (1 ≤ x) × (x ≤ limit)
 unfolding outside
 in-range limit x h =
     let some = eqb-false x 0 (or-fails-left (eqb x 0) (ltb limit x) h) in
     let few = ltb-false limit x (or-fails-right (eqb x 0) (ltb limit x) h) in
     (omega arith, few)
 
-mark-range : (p : ℕ) → (1 ≤ cellMark p) × (cellMark p ≤ 2)
+pub mark-range : (p : ℕ) → (1 ≤ cellMark p) × (cellMark p ≤ 2)
 unfolding cellMark
 mark-range p =
     by-test
@@ -40,7 +40,7 @@ mark-range p =
     (λ e. let q : cellMark p ≡ 2 = pick-false 1 2 e in (omega arith, omega arith))
 
 -- after a line the reading goes on, or its verdict is a refusal
-goes-on : (v : Verdict) (cells : List ℕ) (rest : Entries) → after v cells rest .verdict ≡ Accepted → (v ≡ Accepted) × (after v cells rest ≡ rest)
+pub goes-on : (v : Verdict) (cells : List ℕ) (rest : Entries) → after v cells rest .verdict ≡ Accepted → (v ≡ Accepted) × (after v cells rest ≡ rest)
 unfolding after
 goes-on Accepted cells rest e = (refl, refl)
 goes-on (Refused word place) cells rest e = let z : _≡_ {A = ℕ} 0 1 = cc in no-way (omega arith)
@@ -63,7 +63,7 @@ module _ (text : List ℕ) (h : Header) (rows : h .m ≤ 120) (columns : h .n �
   abbrev more : ℕ → ℕ
   more at = bit (not (emptyLine text at))
 
-  line-entered :
+  pub line-entered :
       (at size : ℕ) (cells : List ℕ) → lineVerdict text h at size cells ≡ Accepted → Entered (h .m) (h .n) cells size → size ≤ h .nonzeros →
       Entered (h .m) (h .n) (noted text h at cells) (size + more at) × (size + more at ≤ h .nonzeros)
   unfolding lineVerdict noted

@@ -1,1 +1,3 @@
 pub mod Reads
+pub mod TextSays
+pub mod Samples
