@@ -59,7 +59,7 @@ module _ (text list parts : List ℕ) (accepted : readVerdict text list parts �
       (and-other (h .integer) (ltb (length parts) (h .nonzeros)) (or-fails-right (ltb (length list) (2 * h .nonzeros)) _ rooms) i)
 
   -- the table of its entries
-  abbrev cells : List ℕ
+  abbrev pub cells : List ℕ
   cells = entriesFrom text h (length text) (h .next) 0 noCells .cells
 
   pub entered : Entered (h .m) (h .n) cells (h .nonzeros)
@@ -77,12 +77,12 @@ module _ (text list parts : List ℕ) (accepted : readVerdict text list parts �
       (entered-none (h .m) (h .n))
       (omega arith)
 
-  list-is : listed cells (120 * h .m) list ≡ readList text list parts
+  pub list-is : listed cells (120 * h .m) list ≡ readList text list parts
   list-is =
       read-list-is text list parts h (headVerdict h (length text) (length list) (length parts)) refl refl (listed cells (120 * h .m) list) head-fine
       (below-list text h noCells cells (entriesFrom text h (length text) (h .next) 0 noCells .verdict) refl refl refl list (listed cells (120 * h .m) list) below-fine refl)
 
-  parts-are : h .integer ≡ true → parted cells (120 * h .m) parts ≡ readParts text list parts
+  pub parts-are : h .integer ≡ true → parted cells (120 * h .m) parts ≡ readParts text list parts
   parts-are i =
       read-parts-is text list parts h (headVerdict h (length text) (length list) (length parts)) refl refl (parted cells (120 * h .m) parts) head-fine
       (below-parts text h noCells cells (entriesFrom text h (length text) (h .next) 0 noCells .verdict) refl refl refl parts (parted cells (120 * h .m) parts) below-fine

@@ -17,3 +17,5 @@ pub mod LinesBelow
 pub mod Noted
 pub mod AllNoted
 pub mod TextSays
+pub mod Refusals
+pub mod OtherBytes
