@@ -6,6 +6,7 @@ use mathlib.Core.Logic.{⊎-elim}
 use Prim.Native.Nat.{ℕ, zero, suc, _+_, _≤_, _<_}
 use native.Mathlib.Nat.{eq-or-lt-of-le, le-of-suc-le-suc}
 use native.Mathlib.Omega.{arith}
+use lib.Dec.{ltb}
 use borrow.Author.Tests.{ltb-true, ltb-false, lt-ltb}
 use Rattle.counting.specs.Tests.{_and_, _or_, bit}
 use Rattle.counting.specs.Sums.{sum, count, any}
@@ -102,6 +103,11 @@ witness p (suc n) h =
 pub any-elim : (p : ℕ → Bool) (n : ℕ) → any p n ≡ true → (t : ℕ) × (t < n) × (p t ≡ true)
 unfolding any
 any-elim p n h = witness p n (ltb-true 0 (count p n) h)
+
+-- two tests that agree below a bound
+pub any-eq : (p q : ℕ → Bool) (n : ℕ) → ((t : ℕ) → t < n → p t ≡ q t) → any p n ≡ any q n
+unfolding any
+any-eq p q n h = ap (ltb 0) (count-eq p q n h)
 
 pub any-fails : (p : ℕ → Bool) (n t : ℕ) → any p n ≡ false → t < n → p t ≡ false
 any-fails p n t h b = fails (p t) (λ e. clash (any-intro p n t b e) h)

@@ -76,6 +76,13 @@ unfolding _and_
 and-other true b h p = h
 and-other false b h p = clash p refl
 
+-- two pairs of tests that agree
+pub and-eq : {a b c d : Bool} → a ≡ c → b ≡ d → a and b ≡ c and d
+and-eq {a} {b} {c} {d} e f = ap (λ (x : Bool). x and b) e ∙ ap (λ (x : Bool). c and x) f
+
+pub or-eq : {a b c d : Bool} → a ≡ c → b ≡ d → a or b ≡ c or d
+or-eq {a} {b} {c} {d} e f = ap (λ (x : Bool). x or b) e ∙ ap (λ (x : Bool). c or x) f
+
 pub or-left : {a : Bool} (b : Bool) → a ≡ true → a or b ≡ true
 unfolding _or_
 or-left b h = rw h

@@ -5,3 +5,4 @@ pub mod Walk
 pub mod Order
 pub mod Theorems
 pub mod State
+pub mod Alike

@@ -2,11 +2,11 @@
 -- Assumes nothing.
 use mathlib.Core.Bool.{Bool, true, false}
 use Prim.Native.Nat.{ℕ, _+_, _-_, _*_, _/_, _≤_}
-use Rattle.counting.specs.Tests.{_and_, bit}
+use Rattle.counting.specs.Tests.{_and_, pick, bit}
 use Rattle.counting.specs.Sums.{sum, count, any}
 use Rattle.model.specs.declared.Part.{Part}
 use Rattle.model.specs.declared.Part.the-variants.{Zero, One}
-use Rattle.model.specs.Pattern.{Pattern, lines, on, lineTotal}
+use Rattle.model.specs.Pattern.{Pattern, lines, on, nonempty, lineTotal}
 
 -- part 0 or 1, as a number
 abbrev pub partNumber : Part → ℕ
@@ -44,6 +44,10 @@ partsOn P σ l = bit (holds P σ Zero l) + bit (holds P σ One l)
 -- volume as published: the number of parts on each line, summed, less one for each line with nonzeros
 unfoldable pub volume : Pattern → Split → ℕ
 volume P σ = sum (partsOn P σ) (lines P) - lineTotal P
+
+-- what a line adds to the volume: for each line with nonzeros, the number of parts that hold some of them, less one
+unfoldable pub lineVolume : Pattern → Split → ℕ → ℕ
+lineVolume P σ l = pick (nonempty P l) (partsOn P σ l - 1) 0
 
 -- load: a part's number of nonzeros
 unfoldable pub load : Pattern → Split → Part → ℕ

@@ -1,20 +1,20 @@
--- The published volume of a split is its number of cut lines.
+-- The published volume of a split is its number of cut lines, and the sum of what its lines add.
 -- Assumes nothing.
 use mathlib.Core.Bool.{Bool, true, false}
 use mathlib.Core.Path.{_≡_, refl, sym, _∙_, ap}
 use mathlib.Core.Logic.{_⊎_, inl, inr, ⊎-elim}
-use Prim.Native.Nat.{ℕ, _+_, _<_}
+use Prim.Native.Nat.{ℕ, _+_, _-_, _<_}
 use native.Mathlib.Omega.{arith}
 use borrow.Author.Tests.{ltb-true, lt-ltb}
-use Rattle.counting.specs.Tests.{_and_, bit}
+use Rattle.counting.specs.Tests.{_and_, pick, bit}
 use Rattle.counting.specs.Sums.{sum, count, any}
-use Rattle.counting.proofs.Joined.{clash, fails, and-left, and-right, bit-false}
+use Rattle.counting.proofs.Joined.{by-test, clash, fails, and-left, and-right, pick-true, pick-false, bit-true, bit-false}
 use Rattle.counting.proofs.Summed.{sum-eq, sum-add}
 use Rattle.counting.proofs.Counted.{count-some, witness, any-elim}
 use Rattle.model.specs.declared.Part.{Part}
 use Rattle.model.specs.declared.Part.the-variants.{Zero, One}
 use Rattle.model.specs.Pattern.{Pattern, lines, on, lineCount, nonempty, lineTotal}
-use Rattle.model.specs.Split.{Split, samePart, holds, isCut, partsOn, volume}
+use Rattle.model.specs.Split.{Split, samePart, holds, isCut, partsOn, volume, lineVolume}
 use Rattle.model.proofs.Split.Parts.{same-is, same-of-eq, holds-intro}
 
 -- a line that holds a nonzero is one with nonzeros
@@ -98,3 +98,18 @@ volume-is-cuts P σ =
       sum-eq (partsOn P σ) (λ l. bit (isCut P σ l) + bit (nonempty P l)) (lines P) (λ l b. parts-are P σ l),
       sum-add (λ l. bit (isCut P σ l)) (λ l. bit (nonempty P l)) (lines P),
     )
+
+-- a line adds 1 if it is cut, and nothing otherwise
+line-adds : (P : Pattern) (σ : Split) (l : ℕ) → lineVolume P σ l ≡ bit (isCut P σ l)
+unfolding lineVolume
+line-adds P σ l =
+    by-test
+    (nonempty P l)
+    (λ h. pick-true (partsOn P σ l - 1) 0 h ∙ omega (arith, parts-are P σ l, bit-true (nonempty P l) h))
+    (λ h. pick-false (partsOn P σ l - 1) 0 h ∙ sym (bit-false (isCut P σ l) (empty-adds-none P σ l h .1)))
+
+-- the published volume is the sum of what the lines add
+pub volume-is-summed : (P : Pattern) (σ : Split) → volume P σ ≡ sum (λ l. lineVolume P σ l) (lines P)
+volume-is-summed P σ =
+    volume-is-cuts P σ
+    ∙ sym (sum-eq (λ l. lineVolume P σ l) (λ l. bit (isCut P σ l)) (lines P) (λ l b. line-adds P σ l))

@@ -1,0 +1,6 @@
+pub mod Patterns
+pub mod Splits
+pub mod Marks
+pub mod Bounds
+pub mod Shown
+pub mod Calls
