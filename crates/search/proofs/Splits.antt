@@ -13,13 +13,16 @@ use Rattle.model.specs.Marking.{marking, taken}
 use Rattle.model.specs.Walk.{shownSplit}
 use Rattle.model.specs.State.{marksIn, arrayOf, trailOf}
 use Rattle.model.specs.Calls.{shownFrom, partBytes}
+use Rattle.model.proofs.Alike.Patterns.{alike-self}
+use Rattle.model.proofs.Alike.Marks.{AlikeMarks, inside-marks}
+use Rattle.model.proofs.Alike.Shown.{shown-bytes-same}
 use Rattle.pattern.specs.Splits.{splitOf}
 use Rattle.marking.specs.Marks.{markBy}
 use Rattle.weighing.specs.Cells.{markingIn}
 use Rattle.bound.specs.declared.Evaluation.{Evaluation}
 use Rattle.bound.specs.Evaluated.{Listed, Placed, Evaluates}
 use Rattle.bound.proofs.Evaluations.{by-line}
-use Rattle.showing.proofs.Same.{shown-bytes-same, volume-back}
+use Rattle.showing.proofs.Same.{volume-back}
 use Rattle.state.specs.Holding.{clearedTo}
 use Rattle.state.proofs.Normal.{cleared-is}
 use Rattle.state.proofs.StateLaws.{marks-length}
@@ -47,9 +50,10 @@ module _
       let τ = marksIn best in
       let held = clears ∙ cleared-is best short in
       let same = by-line m n nonzeros list places (kept .marks) entries (kept .len) marked placed τ (omega (arith, marks-length best)) (ap (λ (t : Trail). t .marks) held ∙ trail-parts τ .0) (ap (λ (t : Trail). t .len) held ∙ trail-parts τ .1) in
+      let k : AlikeMarks P P (markingIn entries) (marking P τ) = inside-marks (listed .inside) (alike-self P) same in
       writes (judges listed .zero-is)
       ∙ ap (λ (x : ℕ). partBytes (shownSplit P cap (markingIn entries)) x parts) (sym (size-is m n nonzeros list))
-      ∙ shown-bytes-same P cap (markingIn entries) (marking P τ) (listed .inside) same parts
+      ∙ shown-bytes-same k cap parts
       ∙ ap (λ (x : ℕ). partBytes (shownSplit P cap (marking P τ)) x parts) (size-is m n nonzeros list)
 
   -- and the volume read off them

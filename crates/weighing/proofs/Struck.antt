@@ -10,7 +10,7 @@ use native.Mathlib.Omega.{arith}
 use lib.Dec.{eqb, leb, ltb}
 use lib.ListN.{length, replicate, getD, length-append, length-replicate}
 use borrow.Author.Tests.{le-leb, lt-leb, leb-true, leb-false, ltb-true, ltb-false, ne-eqb}
-use Rattle.counting.specs.Tests.{_and_, pick}
+use Rattle.counting.specs.Tests.{_and_}
 use Rattle.counting.specs.Sums.{sum, count}
 use Rattle.counting.proofs.Joined.{no-way, by-test, and-left, and-right, and-cases, and-fails-right, pick-true, pick-false}
 use Rattle.counting.proofs.Counted.{count-eq, count-none}
@@ -18,8 +18,9 @@ use Rattle.model.specs.declared.Part.{Part}
 use Rattle.model.specs.Pattern.{Pattern, lines}
 use Rattle.model.specs.Split.{partNumber}
 use Rattle.model.specs.Marking.{Marking, taken}
-use Rattle.model.proofs.Bound.Struck.{untaken-most}
 use Rattle.model.specs.Bound.{leans, untakenOn, atStake, falling, leaningCounts, strikes, struck}
+use Rattle.model.proofs.Bound.Struck.{untaken-most}
+use Rattle.model.proofs.Alike.Bounds.{falling-eq}
 use Rattle.weighing.specs.Striking.{linesAt, leftOf, struckIn, Tallied}
 use Rattle.weighing.proofs.Tally.{lines-total}
 
@@ -161,15 +162,6 @@ falling-length h (suc n) =
       length-replicate (h (suc n)) (suc n),
       falling-length h n,
     )
-
--- two histograms that agree
-pub falling-eq :
-    (g h : ℕ → ℕ) (n : ℕ) → ((x : ℕ) → x ≤ n → g x ≡ h x) → falling g n ≡ falling h n
-unfolding falling
-falling-eq g h zero e = ap (λ (k : ℕ). replicate k 0) (e 0 (omega arith))
-falling-eq g h (suc n) e =
-    ap (λ (k : ℕ). replicate k (suc n) ++ falling g n) (e (suc n) (omega arith))
-    ∙ ap (λ (zs : List ℕ). replicate (h (suc n)) (suc n) ++ zs) (falling-eq g h n (λ x b. e x (omega arith)))
 
 -- weights that no line has add nothing
 pub falling-top :
