@@ -29,6 +29,7 @@ use Rattle.writing.specs.Lines.{refusedText}
 use Rattle.answering.specs.declared.Order.{Order}
 use Rattle.answering.specs.Ordering.{#percent, #budget, orderOf}
 use Rattle.answering.specs.Answer.{listRoom, partsRoom, afterReading, patternText, answerText}
+use Rattle.answering.specs.Printing.{inputRoom}
 use Rattle.scanning.proofs.Scans.{run-after}
 use Rattle.answering.proofs.Orders.{run-within}
 
@@ -116,21 +117,17 @@ unfolding patternText afterReading
 over-text text percent budget out h =
     ap (λ (x : ReadAnswer). afterReading x (readList text listRoom partsRoom) percent budget out) (over-refused text h)
 
--- bytes read at most: 64, the limit of a text, and one
-abbrev pub readLimit : ℕ
-readLimit = 65_601
-
 module _ (input out : List ℕ) where
-  first-bytes : Alike (take readLimit input) input
-  first-bytes i l = getD-take readLimit input i 0 (omega arith)
+  first-bytes : Alike (take inputRoom input) input
+  first-bytes i l = getD-take inputRoom input i 0 (omega arith)
 
-  long-same : readLimit < length input → answerText (take readLimit input) out ≡ answerText input out
+  long-same : inputRoom < length input → answerText (take inputRoom input) out ≡ answerText input out
   unfolding answerText
   long-same h =
-      let first = take readLimit input in
+      let first = take inputRoom input in
       let o = orderOf input in
       let near = order-next input in
-      let whole = length-take-le readLimit input (omega arith) in
+      let whole = length-take-le inputRoom input (omega arith) in
       let short : textLimit < length (drop (o .next) first) = omega (arith, length-drop (o .next) first, whole, near) in
       let long : textLimit < length (drop (o .next) input) = omega (arith, length-drop (o .next) input, near) in
       ap
@@ -142,9 +139,9 @@ module _ (input out : List ℕ) where
       ∙ sym (over-text (drop (o .next) input) (o .percent) (o .budget) out long))
 
   -- the answer to what is read of an input is the answer to the input
-  pub enough-read : answerText (take readLimit input) out ≡ answerText input out
+  pub enough-read : answerText (take inputRoom input) out ≡ answerText input out
   enough-read =
       by-test
-      (ltb readLimit (length input))
-      (λ e. long-same (ltb-true readLimit (length input) e))
-      (λ e. ap (λ (x : List ℕ). answerText x out) (take-all readLimit input (ltb-false readLimit (length input) e)))
+      (ltb inputRoom (length input))
+      (λ e. long-same (ltb-true inputRoom (length input) e))
+      (λ e. ap (λ (x : List ℕ). answerText x out) (take-all inputRoom input (ltb-false inputRoom (length input) e)))

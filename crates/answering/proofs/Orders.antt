@@ -5,10 +5,11 @@ use mathlib.Core.List.{List}
 use mathlib.Core.Path.{_≡_, refl, sym, _∙_, ap}
 use Prim.Native.Nat.{ℕ, zero, suc, _+_, _-_, _≤_}
 use native.Mathlib.Omega.{arith}
-use lib.Dec.{eqb}
+use lib.Dec.{eqb, ltb, leb}
 use lib.ListN.{getD}
+use borrow.Author.Tests.{leb-true}
 use Rattle.counting.specs.Tests.{_and_, pick}
-use Rattle.counting.proofs.Joined.{by-test, pick-true, pick-false}
+use Rattle.counting.proofs.Joined.{by-test, and-left, and-right, pick-true, pick-false}
 use Rattle.scanning.specs.declared.Run.{Run}
 use Rattle.scanning.specs.declared.Run.the-variants.{Digits}
 use Rattle.scanning.specs.Lines.{past, runsAt, runEnd}
@@ -45,3 +46,20 @@ pub order-is :
 unfolding orderOf
 order-is input stop end percent budget last first second one two words numbers both fine e1 e2 e3 e4 e5 e6 e7 e8 e9 e10 e11 e12 e13 =
     rw (e13, e12, e11, e10, e9, e8, e7, e6, e5, e4, e3, e2, e1)
+
+-- a fine first line has at most 35 bytes: two words of 8, two numbers of up to 9, and LF; so its limit of 64 bytes never decides
+pub order-short : (input : List ℕ) → orderOf input .fine ≡ true → orderOf input .next ≤ 35
+unfolding orderOf isNumber
+order-short input h =
+    let stop = runEnd Digits input 8 18 in
+    let from = stop + 8 in
+    let end = runEnd Digits input from (from + 10) in
+    let words = sameWord input 0 8 false #percent and sameWord input stop from false #budget in
+    let first = isNumber input 8 stop in
+    let second = isNumber input from end in
+    let numbers = and-right words (first and second) (and-left (words and (first and second)) (eqb (getD input end 0) 10) h) in
+    let percent = and-left first second numbers in
+    let budget = and-right first second numbers in
+    let short = leb-true (stop - 8) 9 (and-left (leb (stop - 8) 9) (eqb (runEnd Digits input 8 stop) stop) (and-right (ltb 8 stop) _ percent)) in
+    let last = leb-true (end - from) 9 (and-left (leb (end - from) 9) (eqb (runEnd Digits input from end) end) (and-right (ltb from end) _ budget)) in
+    omega arith

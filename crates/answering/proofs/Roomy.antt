@@ -36,19 +36,16 @@ use Rattle.readback.proofs.Accepted.{fine-split}
 use Rattle.readback.proofs.Short.{text-short}
 use Rattle.answering.specs.Ordering.{orderOf}
 use Rattle.answering.specs.Answer.{listRoom, partsRoom, figuresOf, afterWriting, afterShowing, searchText, afterRun, ranText, afterOpening, openedText, afterCap, afterReading, patternText, answerText}
+use Rattle.answering.specs.Printing.{outputRoom}
 
--- bytes that are room enough for every answer
-abbrev pub answerRoom : ℕ
-answerRoom = 32_768
-
-module _ (out other : List ℕ) (room : answerRoom ≤ length out) (too : answerRoom ≤ length other) where
-  length-same : (text : List ℕ) → length text ≤ answerRoom → lengthAnswer text out ≡ lengthAnswer text other
+module _ (out other : List ℕ) (room : outputRoom ≤ length out) (too : outputRoom ≤ length other) where
+  length-same : (text : List ℕ) → length text ≤ outputRoom → lengthAnswer text out ≡ lengthAnswer text other
   unfolding lengthAnswer
   length-same text h =
       pick-false (write-answer.Refused ShortBuffer 0) (write-answer.Written (length text)) (le-ltb (length out) (length text) (omega arith))
       ∙ sym (pick-false (write-answer.Refused ShortBuffer 0) (write-answer.Written (length text)) (le-ltb (length other) (length text) (omega arith)))
 
-  after-same : (v : Verdict) (text : List ℕ) → (v ≡ Accepted → length text ≤ answerRoom) → answerAfter v text out ≡ answerAfter v text other
+  after-same : (v : Verdict) (text : List ℕ) → (v ≡ Accepted → length text ≤ outputRoom) → answerAfter v text out ≡ answerAfter v text other
   unfolding answerAfter
   after-same Accepted text h = length-same text (h refl)
   after-same (Refused word place) text h = refl

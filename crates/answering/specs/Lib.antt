@@ -1,2 +1,3 @@
 pub mod Ordering
 pub mod Answer
+pub mod Printing

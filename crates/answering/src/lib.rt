@@ -1,5 +1,6 @@
 // The program's answer: from the bytes of its input to the bytes that it prints.
 pub mod ordering;
+pub mod printing;
 pub mod splitting;
 
 // The first line: as it must be or not, E and B, and where the text starts.
@@ -8,4 +9,15 @@ pub struct Order {
     pub percent: u32,
     pub budget: u32,
     pub next: usize,
+}
+
+// Bytes of an input that are read, and bytes with room for every answer.
+pub const INPUT_ROOM: usize = 65601;
+
+pub const OUTPUT_ROOM: usize = 32768;
+
+// What the program prints: the first len bytes of its output.
+pub struct Printed {
+    pub bytes: [u8; OUTPUT_ROOM],
+    pub len: usize,
 }
