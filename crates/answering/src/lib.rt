@@ -11,9 +11,10 @@ pub struct Order {
     pub next: usize,
 }
 
-// Bytes of an input that are read, and bytes with room for every answer.
+// Bytes that are read: a first line of up to 64, a text at its limit, and one more, which tells a longer text.
 pub const INPUT_ROOM: usize = 65601;
 
+// Bytes that have room for every answer.
 pub const OUTPUT_ROOM: usize = 32768;
 
 // What the program prints: the first len bytes of its output.
