@@ -1,13 +1,13 @@
 -- The bytes printed are the answer to the whole input: enough is read, and every answer fits.
 -- Assumes nothing.
-use mathlib.Core.List.{List, [], _++_}
-use mathlib.Core.Path.{_≡_, refl, sym, _∙_, ap}
+use mathlib.Core.List.{List}
+use mathlib.Core.Path.{_≡_, sym, _∙_, ap}
 use Prim.Native.Nat.{ℕ, _+_, _-_, _≤_, _<_}
 use native.Mathlib.Omega.{arith}
-use lib.ListN.{length, take, drop, replicate, length-replicate}
-use lib.Seq.{sets, sets-eq, take-all, take-at}
+use lib.ListN.{length, take, drop, length-replicate}
+use lib.Seq.{sets-eq, take-all, take-at}
 use Rattle.writing.specs.Written.{Puts}
-use Rattle.writing.proofs.Puttings.{puts-as, puts-length}
+use Rattle.writing.proofs.Puttings.{puts-as}
 use Rattle.answering.specs.declared.Printed.{Printed}
 use Rattle.answering.specs.Answer.{answerText}
 use Rattle.answering.specs.Printing.{inputRoom, outputRoom, noOutput, Prints}
@@ -30,18 +30,19 @@ start-text page text new next h p =
     ap (take next) (p .bytes ∙ sets-eq text page 0 (omega arith))
     ∙ take-at text (drop (0 + length text) page) next (omega (arith, p .after))
 
-module _ (input out : List ℕ) (count : ℕ) (r : Printed) (size : length input ≡ inputRoom) (start : out ≡ noOutput) where
-  no-output-length : length noOutput ≡ outputRoom
-  unfolding noOutput
-  no-output-length = length-replicate {A = ℕ} outputRoom 0
+no-output-length : length noOutput ≡ outputRoom
+unfolding noOutput
+no-output-length = length-replicate {A = ℕ} outputRoom 0
 
+-- what is printed, in an input and an output of their sizes
+module _ (input out : List ℕ) (count : ℕ) (r : Printed) (size : length input ≡ inputRoom) (room : length (r .bytes) ≡ outputRoom) (start : out ≡ noOutput) where
   module _ (p : Puts noOutput 0 (answerText (take count input) noOutput) (r .bytes) (r .len)) where
     prints-so : Prints input count r
     prints-so =
-        let room = answer-fits (take count input) noOutput in
+        let short = answer-fits (take count input) noOutput in
         record {
           input-size = size;
-          output-size = puts-length p ∙ no-output-length;
+          output-size = room;
           fits = omega (arith, p .after);
           puts = p;
           answers =

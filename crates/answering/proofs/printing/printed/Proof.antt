@@ -20,7 +20,7 @@ answer-start-requires c κs = search needs
 returns : tie.Need-returns
 returns c =
     let a = c .before .before .before .before .before .args in
-    prints (a .t1) (c .before .before .before .before .no-output .result) (a .count) _ (search needs) (c .before .before .before .before .no-output .ensures) (c .before .answer-start .ensures)
+    prints (a .t1) (c .before .before .before .before .no-output .result) (a .count) _ (search needs) (search needs) (c .before .before .before .before .no-output .ensures) (c .before .answer-start .ensures)
 
 pub printed-spec : {M : Type 1} → statement M
 printed-spec =
