@@ -33,25 +33,21 @@ use Rattle.writing.specs.Writing.{writeVerdict, lengthAnswer, answerAfter, writ
 use Rattle.writing.specs.Lines.{#refused, #at, #none, refusedText, noneText}
 use Rattle.writing.proofs.Puttings.{number-short}
 use Rattle.readback.proofs.Accepted.{fine-split}
-use Rattle.readback.proofs.Short.{text-short}
+use Rattle.readback.proofs.Short.{writtenMost, text-short}
 use Rattle.answering.specs.Ordering.{orderOf}
 use Rattle.answering.specs.Answer.{listRoom, partsRoom, figuresOf, afterWriting, afterShowing, searchText, afterRun, ranText, afterOpening, openedText, afterCap, afterReading, patternText, answerText}
-
--- as long as a text of 2,000 nonzeros at most
-abbrev pub answerLimit : ℕ
-answerLimit = 20_231
 
 figure-short : (label : List ℕ) (n : ℕ) → length (figureText label n) ≤ length label + 21
 unfolding figureText
 figure-short label n = omega (arith, length-append label (numberText n 32), number-short n 32)
 
-refused-short : (word : Word) (place : ℕ) → length (refusedText word place) ≤ answerLimit
+refused-short : (word : Word) (place : ℕ) → length (refusedText word place) ≤ writtenMost
 unfolding refusedText
 refused-short word place =
     omega
     (arith, length-append (figureText #refused (refusalNumber word)) (#at ++ numberText place 10), figure-short #refused (refusalNumber word), length-append #at (numberText place 10), number-short place 10)
 
-none-short : (cap tries floor : ℕ) → length (noneText cap tries floor) ≤ answerLimit
+none-short : (cap tries floor : ℕ) → length (noneText cap tries floor) ≤ writtenMost
 unfolding noneText
 none-short cap tries floor =
     omega
@@ -59,8 +55,8 @@ none-short cap tries floor =
 
 module _ (out : List ℕ) where
   after-short :
-      (v : Verdict) (text : List ℕ) → (v ≡ Accepted → length text ≤ answerLimit) →
-      length (afterWriting (answerAfter v text out) text) ≤ answerLimit
+      (v : Verdict) (text : List ℕ) → (v ≡ Accepted → length text ≤ writtenMost) →
+      length (afterWriting (answerAfter v text out) text) ≤ writtenMost
   unfolding answerAfter lengthAnswer afterWriting
   after-short Accepted text h =
       by-test
@@ -70,7 +66,7 @@ module _ (out : List ℕ) where
   after-short (Refused word place) text h = refused-short word place
 
   module _ (m n nonzeros : ℕ) (list : List ℕ) where
-    shown-short : (a : ShowAnswer) (s : Search) (parts : List ℕ) → length (afterShowing a s m n nonzeros list parts out) ≤ answerLimit
+    shown-short : (a : ShowAnswer) (s : Search) (parts : List ℕ) → length (afterShowing a s m n nonzeros list parts out) ≤ writtenMost
     unfolding afterShowing writeCall
     shown-short (show-answer.Split volume floor) s parts =
         let f = figuresOf s volume floor in
@@ -81,34 +77,34 @@ module _ (out : List ℕ) where
     shown-short (show-answer.NoneYet floor) s parts = none-short (s .cap) (s .tries) floor
     shown-short (show-answer.Refused word place) s parts = refused-short word place
 
-    search-short : (s : Search) → length (searchText s m n nonzeros list out) ≤ answerLimit
+    search-short : (s : Search) → length (searchText s m n nonzeros list out) ≤ writtenMost
     unfolding searchText
     search-short s = shown-short (showCall s m n nonzeros list partsRoom) s (showParts s m n nonzeros list partsRoom)
 
-    run-short : (a : RunAnswer) (s : Search) → length (afterRun a s m n nonzeros list out) ≤ answerLimit
+    run-short : (a : RunAnswer) (s : Search) → length (afterRun a s m n nonzeros list out) ≤ writtenMost
     unfolding afterRun
     run-short run-answer.Complete s = search-short s
     run-short run-answer.Stopped s = search-short s
     run-short (run-answer.Refused word place) s = refused-short word place
 
-    opening-short : (v : Verdict) (s : Search) (budget : ℕ) → length (afterOpening v s m n nonzeros list budget out) ≤ answerLimit
+    opening-short : (v : Verdict) (s : Search) (budget : ℕ) → length (afterOpening v s m n nonzeros list budget out) ≤ writtenMost
     unfolding afterOpening ranText
     opening-short Accepted s budget = run-short (runCall s m n nonzeros list budget .answer) (runCall s m n nonzeros list budget .search)
     opening-short (Refused word place) s budget = refused-short word place
 
-    cap-short : (a : CapAnswer) (budget : ℕ) → length (afterCap a m n nonzeros list budget out) ≤ answerLimit
+    cap-short : (a : CapAnswer) (budget : ℕ) → length (afterCap a m n nonzeros list budget out) ≤ writtenMost
     unfolding afterCap openedText
     cap-short (cap-answer.Capped cap) budget =
         opening-short (openCall m n nonzeros list cap .verdict) (openCall m n nonzeros list cap .search) budget
     cap-short (cap-answer.Refused word place) budget = refused-short word place
 
-  reading-short : (a : ReadAnswer) (list : List ℕ) (percent budget : ℕ) → length (afterReading a list percent budget out) ≤ answerLimit
+  reading-short : (a : ReadAnswer) (list : List ℕ) (percent budget : ℕ) → length (afterReading a list percent budget out) ≤ writtenMost
   unfolding afterReading
   reading-short (read-answer.Read m n nonzeros integer) list percent budget = cap-short m n nonzeros list (capCall nonzeros percent) budget
   reading-short (read-answer.Refused word place) list percent budget = refused-short word place
 
 -- an answer is never longer, whatever the input and the output
-pub answer-fits : (input out : List ℕ) → length (answerText input out) ≤ answerLimit
+pub answer-fits : (input out : List ℕ) → length (answerText input out) ≤ writtenMost
 unfolding answerText patternText
 answer-fits input out =
     let o = orderOf input in

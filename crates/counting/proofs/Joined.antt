@@ -13,6 +13,10 @@ use Rattle.counting.specs.Tests.{_and_, _or_, pick, bit}
 pub no-way : {A : Type 0} → 1 ≤ 0 → A
 no-way h = absurd (not-suc-le-zero h)
 
+-- anything follows from an equation that fails, such as `cc` makes of two cases that are one
+pub never : {A : Type 0} → _≡_ {A = ℕ} 0 1 → A
+never e = no-way (omega arith)
+
 -- a test does not both pass and fail
 pub clash : {A : Type 0} {b : Bool} → b ≡ true → b ≡ false → A
 clash pass fail = absurd (true≢false (sym pass ∙ fail))

@@ -15,14 +15,14 @@ use Rattle.model.specs.declared.Opened.{Opened}
 use Rattle.model.specs.declared.Ran.{Ran}
 use Rattle.model.specs.declared.ShowAnswer.{ShowAnswer}
 use Rattle.model.specs.declared.ShowAnswer.the-variants as show-answer
-use Rattle.model.specs.Refusal.{refusalCode, _then_}
-use Rattle.model.specs.Calls.{openVerdict, openCall, runCall, showCall, showParts, showCode}
+use Rattle.model.specs.Refusal.{refusalCode, _then_, replyCode, given, noneYet, refusal}
+use Rattle.model.specs.Calls.{openVerdict, openCall, runCall, showCall, showParts, showCode, showReply}
 use Rattle.gulzoreno.specs.Figures.{withFigures}
 use Rattle.gulzoreno.specs.Host.{outputVerdict, hostVerdict, hostSearch, hostCodeAfter, hostPartsAfter, figuresShown, hostFiguresAfter, bipartitionCode, bipartitionParts, bipartitionFigures}
 
 -- an answer with the second tag is "none yet"
 none-code : (a : ShowAnswer) → tagOf (declared enum) a ≡ 1 → 255 ≡ showCode a
-unfolding showCode
+unfolding showCode showReply replyCode given noneYet refusal refusalCode
 none-code (show-answer.Split volume floor) h = no-way (omega arith)
 none-code (show-answer.NoneYet floor) h = refl
 none-code (show-answer.Refused word place) h = no-way (omega arith)
@@ -57,7 +57,7 @@ module _
 
     -- a split
     pub split-code : (volume floor : ℕ) → shown ≡ show-answer.Split volume floor → 0 ≡ showCode Shown
-    unfolding showCode
+    unfolding showCode showReply replyCode given noneYet refusal refusalCode
     split-code volume floor e = ap showCode (sym e ∙ same)
 
     pub split-figures :
@@ -79,7 +79,7 @@ module _
     -- a refusal
     module _ (word : Word) (place : ℕ) (e : shown ≡ show-answer.Refused word place) where
       pub refused-code : (r : ℕ) → r ≡ refusalCode word place → r ≡ showCode Shown
-      unfolding showCode
+      unfolding showCode showReply replyCode given noneYet refusal refusalCode
       refused-code r h = h ∙ ap showCode (sym e ∙ same)
 
       pub refused-figures : figures ≡ figuresShown Shown (runCall search m n nonzeros list budget .search) figures

@@ -4,3 +4,4 @@ pub mod Answers
 pub mod Walked
 pub mod Reading
 pub mod Promised
+pub mod Refusals

@@ -9,7 +9,7 @@ use native.Mathlib.Omega.{arith}
 use lib.Dec.{ltb, leb}
 use lib.ListN.{length}
 use Rattle.counting.specs.Tests.{_or_}
-use Rattle.counting.proofs.Joined.{no-way}
+use Rattle.counting.proofs.Joined.{never}
 use Rattle.model.specs.declared.Word.{Word}
 use Rattle.model.specs.declared.Word.the-variants.{Banner, SizeLine, EntryForm, TooBig, OffMatrix, Repeated, Count, BadPart, ShortBuffer, Order, Cap, NoSplit, Budget, State}
 use Rattle.model.specs.declared.Verdict.{Verdict}
@@ -65,7 +65,7 @@ PlaceTo limit Accepted = Unit {0}
 PlaceTo limit (Refused word place) = place ≤ limit
 
 place-to : (limit : ℕ) (v : Verdict) {word : Word} {place : ℕ} → PlaceTo limit v → v ≡ Refused word place → place ≤ limit
-place-to limit Accepted h e = let z : _≡_ {A = ℕ} 0 1 = cc in no-way (omega arith)
+place-to limit Accepted h e = never (cc)
 place-to limit (Refused word place) {place = other} h e = let z : place ≡ other = cc in omega arith
 
 -- one check, and a check after another
@@ -169,8 +169,8 @@ module _ (m n nonzeros : ℕ) (list : List ℕ) where
       (cap low : ℕ) (best : Option (List ℕ)) {word : Word} {place : ℕ} →
       shown (patternOf m n nonzeros list) cap best low ≡ show-answer.Refused word place → place ≤ nonzeroLimit
   unfolding shown
-  given cap low none e = let z : _≡_ {A = ℕ} 0 1 = cc in no-way (omega arith)
-  given cap low (some best) e = let z : _≡_ {A = ℕ} 0 1 = cc in no-way (omega arith)
+  given cap low none e = never (cc)
+  given cap low (some best) e = never (cc)
 
   after :
       (s : Search) (v : Verdict) {word : Word} {place : ℕ} → PlaceTo nonzeroLimit v →

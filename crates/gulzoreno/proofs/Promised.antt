@@ -16,17 +16,17 @@ use Rattle.model.specs.declared.Verdict.{Verdict}
 use Rattle.model.specs.declared.Verdict.the-variants.{Accepted, Refused}
 use Rattle.model.specs.declared.ShowAnswer.{ShowAnswer}
 use Rattle.model.specs.Limits.{lineLimit}
-use Rattle.model.specs.Refusal.{refusalCode}
+use Rattle.model.specs.Refusal.{refusalCode, replyCode, given, noneYet, refusal}
 use Rattle.model.specs.Pattern.{Pattern, patternOf, lines}
 use Rattle.model.specs.Split.{Split, Meets, volume, load, isCut}
 use Rattle.model.specs.Walk.{Record, rulesOf, walked, floor}
 use Rattle.model.specs.State.{searchOf}
-use Rattle.model.specs.Calls.{completeNumber, shownFrom, shown, partBytes, shownParts, showCall, showCode}
+use Rattle.model.specs.Calls.{completeNumber, shownFrom, shown, partBytes, shownParts, showCall, showCode, showReply}
 use Rattle.model.proofs.Split.Volume.{volume-is-cuts}
 use Rattle.model.proofs.Theorems.Accepted.{list-accepted}
 use Rattle.pattern.specs.Splits.{splitOf}
 use Rattle.showing.proofs.Same as same
-use Rattle.search.specs.History.{Demand}
+use Rattle.search.specs.Demand.{Demand}
 use Rattle.search.proofs.Splits.{size-is}
 use Rattle.gulzoreno.specs.Figures.{figuresBytes, withFigures}
 use Rattle.gulzoreno.specs.Host.{hostVerdict, hostSearch, hostCodeAfter, figuresShown, bipartitionCode, bipartitionParts, bipartitionFigures}
@@ -37,7 +37,7 @@ use Rattle.gulzoreno.proofs.Reading as reading
 
 -- answer 0 is no refusal
 code-accepted : (v : Verdict) (a : ShowAnswer) → hostCodeAfter v a ≡ 0 → v ≡ Accepted
-unfolding hostCodeAfter refusalCode
+unfolding hostCodeAfter refusalCode replyCode refusal
 code-accepted Accepted a h = refl
 code-accepted (Refused word place) a h = no-way (omega (arith, number-some word))
 
@@ -45,7 +45,7 @@ code-accepted (Refused word place) a h = no-way (omega (arith, number-some word)
 code-found :
     (P : Pattern) (cap low : ℕ) (best : Option (List ℕ)) → showCode (shown P cap best low) ≡ 0 →
     (τ : List ℕ) × (best ≡ some τ)
-unfolding showCode shown
+unfolding showCode shown showReply replyCode given noneYet refusal refusalCode
 code-found P cap low none h = no-way (omega arith)
 code-found P cap low (some τ) h = (τ, refl)
 

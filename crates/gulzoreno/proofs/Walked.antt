@@ -27,7 +27,8 @@ use Rattle.model.proofs.Walk.Reached.{walk-for}
 use Rattle.model.proofs.Walk.Ending.{fresh-tries}
 use Rattle.model.proofs.Theorems.Accepted.{open-accepted, then-first, then-second, refuse-not, refuse-no}
 use Rattle.pattern.proofs.Verdicts.{then-accepted}
-use Rattle.search.specs.History.{acceptedBudget, History, opened, ran, Demand}
+use Rattle.search.specs.History.{acceptedBudget, Handed, handedSlice, History, opened, ran}
+use Rattle.search.specs.Demand.{Demand}
 use Rattle.search.proofs.Demand3.{demand-3}
 use Rattle.gulzoreno.specs.Figures.{figuresBytes}
 use Rattle.gulzoreno.specs.Host.{outputVerdict, hostVerdict, hostSearch, hostCodeAfter, hostPartsAfter, figuresShown, hostFiguresAfter, bipartitionCode, bipartitionParts, bipartitionFigures}
@@ -117,6 +118,10 @@ module _
   at-start : Demand m n nonzeros list cap (openCall m n nonzeros list cap .search) 0
   at-start = demand-3 m n nonzeros list cap .throughout start
 
+  -- what each call is handed
+  abbrev handed : Handed m n nonzeros list
+  handed = handedSlice m n nonzeros list list (λ i below. refl)
+
   -- the run
   runs : runVerdict (after 0) m n nonzeros list budget ≡ Accepted
   unfolding runVerdict
@@ -138,7 +143,7 @@ module _
   counts =
       ap
       (λ (a : Ran). acceptedBudget (a .answer) budget)
-      (at-start .run-is budget
+      (at-start .run-is handed budget
       ∙ ap (λ (v : Verdict). ranAfter v (openCall m n nonzeros list cap .search) P budget) runs)
       ∙ ended-budget _ budget
 
@@ -148,7 +153,7 @@ module _
       subst
       (λ (total : ℕ). Demand m n nonzeros list cap (Run .search) total)
       (omega (arith, counts))
-      (demand-3 m n nonzeros list cap .throughout (ran start budget Run refl) .1)
+      (demand-3 m n nonzeros list cap .throughout (ran start handed budget Run refl) .2)
 
   -- the showing
   shows : showVerdict (after budget) m n nonzeros list parts ≡ Accepted
@@ -164,7 +169,7 @@ module _
   shown-walks : showCall (hostSearch m n nonzeros list cap budget) m n nonzeros list parts ≡ Shown
   unfolding shownAfter
   shown-walks =
-      at-end .show-is parts
+      at-end .show-is handed parts
       ∙ ap (λ (v : Verdict). shownAfter v (after budget) P) shows
       ∙ ap (λ (c : ℕ). shown P c (after budget .best) (floor (rulesOf P c) (after budget))) (cap-kept budget)
 
@@ -173,7 +178,7 @@ module _
       ≡ shownParts P cap (after budget .best) parts
   unfolding partsAfter
   parts-walk =
-      at-end .parts-are parts
+      at-end .parts-are handed parts
       ∙ ap (λ (v : Verdict). partsAfter v (after budget) P parts) shows
       ∙ ap (λ (c : ℕ). shownParts P c (after budget .best) parts) (cap-kept budget)
 

@@ -1,3 +1,5 @@
 pub mod Accepted
 pub mod Least
 pub mod Ends
+pub mod Replies
+pub mod Refusals

@@ -20,7 +20,7 @@ use Rattle.model.specs.declared.Ran.{Ran}
 use Rattle.model.specs.declared.ShowAnswer.{ShowAnswer}
 use Rattle.model.specs.declared.ShowAnswer.the-variants as show-answer
 use Rattle.model.specs.Limits.{lineLimit, nonzeroLimit, capLimit, percentLimit, budgetLimit, triesLimit}
-use Rattle.model.specs.Refusal.{refusalCode, refuse, _then_}
+use Rattle.model.specs.Refusal.{Reply, given, noneYet, refusal, replyCode, refuse, _then_}
 use Rattle.model.specs.Pattern.{Pattern, entryBytes, rowIn, columnIn, patternOf}
 use Rattle.model.specs.Split.{Split, partNumber, volume, capFromPercent}
 use Rattle.model.specs.Marking.{marking}
@@ -204,8 +204,28 @@ showParts s m n nonzeros list parts =
     (patternOf m n nonzeros list)
     parts
 
--- a showing's answer as a number: 0, or 255 for "none yet", or a refusal as number + 256 × place
+-- the number and values of each case of an answer: the cap
+unfoldable pub capReply : CapAnswer → Reply
+capReply (cap-answer.Capped cap) = given (cap ∷ [])
+capReply (cap-answer.Refused word place) = refusal word place
+
+-- complete 0 or 1
+unfoldable pub runReply : RunAnswer → Reply
+runReply run-answer.Complete = given (completeNumber true ∷ [])
+runReply run-answer.Stopped = given (completeNumber false ∷ [])
+runReply (run-answer.Refused word place) = refusal word place
+
+-- volume and floor, or 255 and the floor for "none yet"
+unfoldable pub showReply : ShowAnswer → Reply
+showReply (show-answer.Split volume floor) = given (volume ∷ floor ∷ [])
+showReply (show-answer.NoneYet floor) = noneYet (floor ∷ [])
+showReply (show-answer.Refused word place) = refusal word place
+
+-- what an accepted showing replies, by the best marking
+unfoldable pub shownReply : Pattern → ℕ → Option (List ℕ) → ℕ → Reply
+shownReply P cap none floor = noneYet (floor ∷ [])
+shownReply P cap (some best) floor = given (volume P (shownFrom P cap best) ∷ floor ∷ [])
+
+-- a showing's answer as one number: 0, or 255 for "none yet", or a refusal as number + 256 × place
 unfoldable pub showCode : ShowAnswer → ℕ
-showCode (show-answer.Split volume floor) = 0
-showCode (show-answer.NoneYet floor) = 255
-showCode (show-answer.Refused word place) = refusalCode word place
+showCode answer = replyCode (showReply answer)

@@ -1,6 +1,7 @@
--- Document 01, 'Refusal table': the numbers of its words, and checks made one after another.
+-- Document 01, 'Refusal table': the numbers of its words, checks made one after another, and what a call replies in numbers.
 -- Assumes nothing.
 use mathlib.Core.Bool.{Bool, true, false}
+use mathlib.Core.List.{List, []}
 use Prim.Native.Nat.{ℕ, _+_, _*_}
 use Rattle.model.specs.declared.Word.{Word}
 use Rattle.model.specs.declared.Word.the-variants.{Banner, SizeLine, EntryForm, TooBig, OffMatrix, Repeated, Count, BadPart, ShortBuffer, Order, Cap, NoSplit, Budget, State}
@@ -24,15 +25,6 @@ refusalNumber NoSplit = 12
 refusalNumber Budget = 13
 refusalNumber State = 14
 
--- a refusal as number + 256 × place
-unfoldable pub refusalCode : Word → ℕ → ℕ
-refusalCode word place = refusalNumber word + 256 * place
-
--- a verdict as a number: 0, or the refusal's
-unfoldable pub verdictCode : Verdict → ℕ
-verdictCode Accepted = 0
-verdictCode (Refused word place) = refusalCode word place
-
 -- one check: refused with this word at this place where the test passes
 unfoldable pub refuse : Bool → Word → ℕ → Verdict
 refuse true word place = Refused word place
@@ -43,3 +35,42 @@ infixl 20 _then_
 unfoldable pub _then_ : Verdict → Verdict → Verdict
 Accepted then later = later
 Refused word place then later = Refused word place
+
+-- reply: what an answer is in this paper's numbers: 0, 255 for "none yet", or a refusal's number; a refusal's place, else 0; and the values given
+pub record Reply : Type 0 where
+  pub number : ℕ
+  pub place : ℕ
+  pub values : List ℕ
+
+-- the reply of a call that is accepted and gives these values
+unfoldable pub given : List ℕ → Reply
+given values = record { number = 0; place = 0; values = values }
+
+-- "none yet", with these values
+unfoldable pub noneYet : List ℕ → Reply
+noneYet values = record { number = 255; place = 0; values = values }
+
+-- the reply of a refusal: no values
+unfoldable pub refusal : Word → ℕ → Reply
+refusal word place = record { number = refusalNumber word; place = place; values = [] }
+
+-- the reply after this verdict: as given where nothing is refused
+unfoldable pub replyAfter : Verdict → Reply → Reply
+replyAfter Accepted reply = reply
+replyAfter (Refused word place) reply = refusal word place
+
+-- what a verdict alone replies
+unfoldable pub verdictReply : Verdict → Reply
+verdictReply verdict = replyAfter verdict (given [])
+
+-- a reply as one number: number + 256 × place
+unfoldable pub replyCode : Reply → ℕ
+replyCode reply = reply .number + 256 * reply .place
+
+-- a refusal as one number
+unfoldable pub refusalCode : Word → ℕ → ℕ
+refusalCode word place = replyCode (refusal word place)
+
+-- a verdict as one number: 0, or the refusal's
+unfoldable pub verdictCode : Verdict → ℕ
+verdictCode verdict = replyCode (verdictReply verdict)

@@ -26,9 +26,9 @@ use Rattle.model.specs.Split.{Split, samePart, holds, isCut, partsOn, vo
 use Rattle.model.specs.Marking.{Marking, precedes, place, markAt, marking, takes, taken, valid, touched, conditionFor, condition}
 use Rattle.model.specs.Bound.{saysCut, saysTorn, saysLeaning, leans, L1, L2, L3, L4, untaken, atStake, untakenOn, falling, leaningCounts, strikes, struck, conflict, mostChosen, bound}
 use Rattle.model.specs.Walk.{Record, Rules, rulesOf, fresh, freshOf, givesPart, oneAllowed, afterZero, advance, cuts, isEmpty, tried, improved, stands, outcome, tryOnce, step, walk, walked, putLater, beginningsLater, openMarkings, leastBound, floor, filled, shownSplit}
-use Rattle.model.specs.Refusal.{refusalCode, verdictCode, refuse, _then_}
+use Rattle.model.specs.Refusal.{refusalCode, given, noneYet, refusal, replyAfter, verdictReply, replyCode, verdictCode, refuse, _then_}
 use Rattle.model.specs.State.{stack, marksIn, bestIn, recordOf, arrayOf, trailOf, isFound, bestOr, searchOf, areMarks, startsWithZero, beginningsValid, trailFine, bestFine, stateFine}
-use Rattle.model.specs.Calls.{outside, sizesVerdict, rises, entryVerdict, entriesVerdict, listVerdict, openVerdict, runVerdict, showVerdict, capVerdict, capAfter, capCall, noRecord, openedAfter, openCall, ended, ranRecord, ranAfter, runCall, shownFrom, shown, partBytes, shownParts, shownAfter, partsAfter, showCall, showParts}
+use Rattle.model.specs.Calls.{outside, sizesVerdict, rises, entryVerdict, entriesVerdict, listVerdict, openVerdict, runVerdict, showVerdict, capVerdict, capAfter, capCall, noRecord, openedAfter, openCall, ended, ranRecord, ranAfter, runCall, shownFrom, shown, partBytes, shownParts, shownAfter, partsAfter, showCall, showParts, completeNumber, capReply, runReply, showReply}
 
 -- part p for nonzero t, and another split's parts for the others
 unfoldable pub withPart : Split → ℕ → Part → Split
@@ -109,7 +109,7 @@ cornerMarking l = getD (3 ∷ 1 ∷ 0 ∷ 3 ∷ []) l 3
 
 -- to unfold this is to unfold every definition that a sample computes with
 computing : Type 0
-unfolding _and_ _or_ pick bit sum any rowIn columnIn patternOf lines rowLine columnLine on lineCount nonempty lineTotal samePart holds isCut partsOn volume load capFromPercent precedes place markAt marking takes taken valid touched conditionFor condition saysCut saysTorn saysLeaning leans L1 L2 L3 L4 untaken atStake untakenOn falling leaningCounts strikes struck conflict mostChosen bound rulesOf fresh givesPart oneAllowed afterZero advance cuts isEmpty tried improved stands outcome tryOnce step walk putLater beginningsLater openMarkings leastBound floor filled shownSplit refusalCode verdictCode refuse _then_ stack marksIn bestIn recordOf arrayOf trailOf isFound bestOr searchOf areMarks startsWithZero beginningsValid trailFine bestFine stateFine outside sizesVerdict rises entryVerdict entriesVerdict listVerdict openVerdict runVerdict showVerdict capVerdict capAfter capCall freshOf noRecord openedAfter openCall ended ranRecord ranAfter runCall shownFrom shown partBytes shownParts shownAfter partsAfter showCall showParts withPart leastAmong leastVolume walked standsAt showsParts
+unfolding _and_ _or_ pick bit sum any rowIn columnIn patternOf lines rowLine columnLine on lineCount nonempty lineTotal samePart holds isCut partsOn volume load capFromPercent precedes place markAt marking takes taken valid touched conditionFor condition saysCut saysTorn saysLeaning leans L1 L2 L3 L4 untaken atStake untakenOn falling leaningCounts strikes struck conflict mostChosen bound rulesOf fresh givesPart oneAllowed afterZero advance cuts isEmpty tried improved stands outcome tryOnce step walk putLater beginningsLater openMarkings leastBound floor filled shownSplit refusalCode given noneYet refusal replyAfter verdictReply replyCode verdictCode refuse _then_ stack marksIn bestIn recordOf arrayOf trailOf isFound bestOr searchOf areMarks startsWithZero beginningsValid trailFine bestFine stateFine outside sizesVerdict rises entryVerdict entriesVerdict listVerdict openVerdict runVerdict showVerdict capVerdict capAfter capCall freshOf noRecord openedAfter openCall ended ranRecord ranAfter runCall shownFrom shown partBytes shownParts shownAfter partsAfter showCall showParts completeNumber capReply runReply showReply withPart leastAmong leastVolume walked standsAt showsParts
 computing = Unit
 
 -- the samples marked P
@@ -244,6 +244,12 @@ pub record CallSamples : Type 0 where
   pub percent-taken : capCall 233 3 ≡ cap-answer.Capped 119
   pub percent-refused : capCall 233 101 ≡ cap-answer.Refused Cap 0
   pub percent-too-big : capCall 2001 101 ≡ cap-answer.Refused TooBig 0
+  -- the same in numbers
+  pub begun-reply : showReply (showCall (begun .search) 2 2 2 diagonalList (7 ∷ 7 ∷ [])) ≡ record { number = 255; place = 0; values = 0 ∷ [] }
+  pub finished-reply : runReply (finished .answer) ≡ record { number = 0; place = 0; values = 1 ∷ [] }
+  pub percent-reply : capReply (capCall 233 3) ≡ record { number = 0; place = 0; values = 119 ∷ [] }
+  pub order-reply : verdictReply (listVerdict 2 2 2 (1 ∷ 1 ∷ 0 ∷ 0 ∷ [])) ≡ record { number = 10; place = 1; values = [] }
+  pub order-code : verdictCode (listVerdict 2 2 2 (1 ∷ 1 ∷ 0 ∷ 0 ∷ [])) ≡ 266
 
 pub callSamples : CallSamples
 unfolding computing
@@ -273,4 +279,9 @@ callSamples =
       percent-taken = refl;
       percent-refused = refl;
       percent-too-big = refl;
+      begun-reply = refl;
+      finished-reply = refl;
+      percent-reply = refl;
+      order-reply = refl;
+      order-code = refl;
     }

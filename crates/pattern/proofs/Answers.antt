@@ -1,6 +1,6 @@
 -- Laws of the checks of parts, and of the answers on volume and load.
 -- Assumes nothing.
-use mathlib.Core.List.{List}
+use mathlib.Core.List.{List, [], _∷_}
 use mathlib.Core.Path.{_≡_, refl, sym, _∙_, ap}
 use Prim.Native.Nat.{ℕ, _≤_, _<_}
 use native.Mathlib.Omega.{arith}
@@ -9,14 +9,17 @@ use borrow.Author.Tests.{lt-ltb, le-ltb}
 use Rattle.model.specs.declared.Part.{Part}
 use Rattle.model.specs.declared.Word.{Word}
 use Rattle.model.specs.declared.Word.the-variants.{BadPart, ShortBuffer}
+use Rattle.model.specs.declared.Verdict.{Verdict}
 use Rattle.model.specs.declared.Verdict.the-variants.{Accepted, Refused}
+use Rattle.model.specs.Refusal.{given, replyAfter}
 use Rattle.model.specs.Pattern.{patternOf}
 use Rattle.model.specs.Split.{volume, load}
 use Rattle.model.specs.Calls.{sizesVerdict, listVerdict}
+use Rattle.pattern.specs.declared.Measured.{Measured}
 use Rattle.pattern.specs.declared.Measured.the-variants as measured
 use Rattle.pattern.specs.Checks.{eachVerdict}
 use Rattle.pattern.specs.Splits.{splitOf, loadOf}
-use Rattle.pattern.specs.Measures.{partVerdict, partsVerdict, measureVerdict, measuredAfter, volumeCall, loadCall}
+use Rattle.pattern.specs.Measures.{partVerdict, partsVerdict, measureVerdict, measuredAfter, volumeCall, loadCall, measuredReply}
 use Rattle.pattern.proofs.Verdicts.{refuse-true, refuse-false, then-accepted, then-refused, then-first}
 use Rattle.pattern.proofs.Lines.{load-is}
 
@@ -85,3 +88,15 @@ module _ (m n nonzeros : ℕ) (list parts : List ℕ) where
       measured.Refused word place ≡ loadCall m n nonzeros list parts p
   unfolding loadCall measuredAfter
   load-refused p word place h = sym (ap (λ v. measuredAfter v (load (patternOf m n nonzeros list) (splitOf parts) p)) h)
+
+-- what is answered, in numbers: the value
+measured-replies :
+    (v : Verdict) (value : ℕ) → measuredReply (measuredAfter v value) ≡ replyAfter v (given (value ∷ []))
+unfolding measuredReply measuredAfter replyAfter
+measured-replies Accepted value = refl
+measured-replies (Refused word place) value = refl
+
+pub measured-told :
+    {answer : Measured} (v : Verdict) (value : ℕ) → answer ≡ measuredAfter v value →
+    (answer ≡ measuredAfter v value) × (measuredReply answer ≡ replyAfter v (given (value ∷ [])))
+measured-told v value e = (e, ap measuredReply e ∙ measured-replies v value)

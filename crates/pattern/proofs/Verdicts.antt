@@ -13,7 +13,7 @@ use lib.Dec.{ltb, leb, eqb}
 use lib.ListN.{length}
 use borrow.Author.Tests.{ltb-false, lt-ltb, le-ltb, le-leb, lt-leb, eq-eqb, ne-eqb}
 use Rattle.counting.specs.Tests.{_and_, _or_}
-use Rattle.counting.proofs.Joined.{no-way, and-fails-left, or-left, or-right, or-fails, or-fails-left, or-fails-right}
+use Rattle.counting.proofs.Joined.{no-way, and-fails-left, or-left, or-right, or-fails, or-fails-left, or-fails-right, never}
 use Rattle.model.proofs.Verdict.{enum}
 use Rattle.model.specs.declared.Word.{Word}
 use Rattle.model.specs.declared.Word.the-variants.{TooBig, OffMatrix, ShortBuffer, Order}
@@ -110,7 +110,7 @@ inside-limit x h = ltb-false lineLimit x (or-fails-right (eqb x 0) (ltb lineLimi
 -- sizes that are accepted are small
 small : (b : Bool) → refuse b TooBig 0 ≡ Accepted → b ≡ false
 unfolding refuse
-small true h = let z : _≡_ {A = ℕ} 0 1 = cc in no-way (omega arith)
+small true h = never (cc)
 small false h = refl
 
 module _ (m n nonzeros : ℕ) (fine : sizesVerdict m n nonzeros ≡ Accepted) where

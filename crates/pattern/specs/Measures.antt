@@ -1,6 +1,6 @@
 -- What is answered when the volume or the load of a split given as bytes is asked for, for any values.
 -- Assumes nothing.
-use mathlib.Core.List.{List}
+use mathlib.Core.List.{List, [], _∷_}
 use Prim.Native.Nat.{ℕ}
 use lib.Dec.{ltb}
 use lib.ListN.{length, getD}
@@ -8,7 +8,7 @@ use Rattle.model.specs.declared.Part.{Part}
 use Rattle.model.specs.declared.Word.the-variants.{BadPart, ShortBuffer}
 use Rattle.model.specs.declared.Verdict.{Verdict}
 use Rattle.model.specs.declared.Verdict.the-variants.{Accepted, Refused}
-use Rattle.model.specs.Refusal.{refuse, _then_}
+use Rattle.model.specs.Refusal.{Reply, given, refusal, refuse, _then_}
 use Rattle.model.specs.Pattern.{patternOf}
 use Rattle.model.specs.Split.{volume, load}
 use Rattle.model.specs.Calls.{listVerdict}
@@ -49,3 +49,8 @@ loadCall m n nonzeros list parts p =
     measuredAfter
     (measureVerdict m n nonzeros list parts)
     (load (patternOf m n nonzeros list) (splitOf parts) p)
+
+-- the number and values of each case
+unfoldable pub measuredReply : Measured → Reply
+measuredReply (measured.Value value) = given (value ∷ [])
+measuredReply (measured.Refused word place) = refusal word place

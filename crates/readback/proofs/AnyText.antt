@@ -9,7 +9,7 @@ use lib.Dec.{ltb}
 use lib.ListN.{length}
 use borrow.Author.Tests.{ltb-false, le-ltb}
 use Rattle.counting.specs.Tests.{_and_, _or_}
-use Rattle.counting.proofs.Joined.{no-way, and-other, or-fails, or-fails-left, or-fails-right}
+use Rattle.counting.proofs.Joined.{and-other, or-fails, or-fails-left, or-fails-right, never}
 use Rattle.model.specs.declared.Word.the-variants.{ShortBuffer}
 use Rattle.model.specs.declared.Verdict.{Verdict}
 use Rattle.model.specs.declared.Verdict.the-variants.{Accepted, Refused}
@@ -138,7 +138,7 @@ pub answered :
 unfolding answerAfter
 answered Accepted h m n nonzeros integer e =
     record { accepted = refl; m-is = cc; n-is = cc; nonzeros-are = cc; integer-is = cc }
-answered (Refused word place) h m n nonzeros integer e = let z : _≡_ {A = ℕ} 0 1 = cc in no-way (omega arith)
+answered (Refused word place) h m n nonzeros integer e = never (cc)
 
 -- a reading of any text, with its answer
 module _ (text list parts : List ℕ) (m n nonzeros : ℕ) where

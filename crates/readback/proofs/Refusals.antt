@@ -1,10 +1,9 @@
--- A reading or a writing that is refused changes nothing.
+-- A reading that is refused changes nothing.
 -- Assumes nothing.
 use mathlib.Core.List.{List}
 use mathlib.Core.Path.{_≡_, refl}
 use Prim.Native.Nat.{ℕ}
-use native.Mathlib.Omega.{arith}
-use Rattle.counting.proofs.Joined.{no-way}
+use Rattle.counting.proofs.Joined.{never}
 use Rattle.model.specs.declared.Word.{Word}
 use Rattle.model.specs.declared.Verdict.{Verdict}
 use Rattle.model.specs.declared.Verdict.the-variants.{Accepted, Refused}
@@ -12,17 +11,13 @@ use Rattle.texts.specs.declared.Header.{Header}
 use Rattle.texts.specs.declared.ReadAnswer.the-variants as read-answer
 use Rattle.texts.specs.Header.{headerOf}
 use Rattle.texts.specs.Reading.{answerAfter, outputAfter, readVerdict, readCall, readList, readParts}
-use Rattle.writing.specs.declared.Figures.{Figures}
-use Rattle.writing.specs.declared.WriteAnswer.the-variants as write-answer
-use Rattle.writing.specs.Writing.{writeCall, writeOut}
-use Rattle.writing.proofs.Answers.{write-keeps}
 
 -- an answer that is a refusal comes of a verdict that is one
 kept-by :
     (v : Verdict) (h : Header) (new old : List ℕ) (word : Word) (place : ℕ) → answerAfter v h ≡ read-answer.Refused word place →
     outputAfter v new old ≡ old
 unfolding answerAfter outputAfter
-kept-by Accepted h new old word place e = let z : _≡_ {A = ℕ} 0 1 = cc in no-way (omega arith)
+kept-by Accepted h new old word place e = never (cc)
 kept-by (Refused w p) h new old word place e = refl
 
 pub read-refused :
@@ -33,9 +28,3 @@ read-refused text list parts word place e = (
   kept-by (readVerdict text list parts) (headerOf text) _ list word place e,
   kept-by (readVerdict text list parts) (headerOf text) _ parts word place e,
 )
-
--- a refusal for an output that is too short among them
-pub write-refused :
-    (m n nonzeros : ℕ) (list parts : List ℕ) (f : Figures) (out : List ℕ) (word : Word) (place : ℕ) →
-    writeCall m n nonzeros list parts f out ≡ write-answer.Refused word place → writeOut m n nonzeros list parts f out ≡ out
-write-refused m n nonzeros list parts f out word place e = write-keeps m n nonzeros list parts f out word place e

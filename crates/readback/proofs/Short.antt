@@ -14,6 +14,10 @@ use Rattle.writing.proofs.Back.{sizes-length}
 use Rattle.readback.proofs.Accepted.{Fine}
 use Rattle.readback.proofs.Lines.{entries-none, entries-length}
 
+-- the most bytes of a written text: its head, its size line, and ten for each entry
+abbrev pub writtenMost : ℕ
+writtenMost = 20_231
+
 module _ {m n nonzeros : ℕ} {list parts : List ℕ} (split : Fine m n nonzeros list parts) where
   -- an entry: three digits, a space, three digits, a space, a digit and LF at most
   entry-short : (t : ℕ) → t < nonzeros → length (entryText list parts t) ≤ 10
@@ -31,7 +35,7 @@ module _ {m n nonzeros : ℕ} {list parts : List ℕ} (split : Fine m n nonzeros
   entries-short zero b = omega (arith, ap length (entries-none list parts))
   entries-short (suc t) b = omega (arith, entries-length list parts t, entry-short t b, entries-short t (omega arith))
 
-  pub text-short : (f : Figures) → length (textOf m n nonzeros list parts f) ≤ 20_231
+  pub text-short : (f : Figures) → length (textOf m n nonzeros list parts f) ≤ writtenMost
   unfolding textOf bodyText
   text-short f =
       let entries = entriesText list parts nonzeros in

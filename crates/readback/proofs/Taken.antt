@@ -9,7 +9,7 @@ use lib.Dec.{eqb, ltb, leb}
 use lib.ListN.{length, set}
 use borrow.Author.Tests.{ltb-true, ltb-false, leb-false, eqb-false}
 use Rattle.counting.specs.Tests.{bit}
-use Rattle.counting.proofs.Joined.{no-way, by-test, or-fails-left, or-fails-right, pick-true, pick-false}
+use Rattle.counting.proofs.Joined.{by-test, or-fails-left, or-fails-right, pick-true, pick-false, never}
 use Rattle.model.specs.declared.Word.the-variants.{OffMatrix, Repeated, Count}
 use Rattle.model.specs.declared.Verdict.{Verdict}
 use Rattle.model.specs.declared.Verdict.the-variants.{Accepted, Refused}
@@ -43,7 +43,7 @@ mark-range p =
 pub goes-on : (v : Verdict) (cells : List ℕ) (rest : Entries) → after v cells rest .verdict ≡ Accepted → (v ≡ Accepted) × (after v cells rest ≡ rest)
 unfolding after
 goes-on Accepted cells rest e = (refl, refl)
-goes-on (Refused word place) cells rest e = let z : _≡_ {A = ℕ} 0 1 = cc in no-way (omega arith)
+goes-on (Refused word place) cells rest e = never (cc)
 
 module _ (text : List ℕ) (h : Header) (rows : h .m ≤ 120) (columns : h .n ≤ 120) where
   -- an entry that is accepted

@@ -8,7 +8,7 @@ use lib.Dec.{ltb}
 use lib.ListN.{length, take, drop}
 use lib.Seq.{sets, sets-eq, take-append-seam}
 use borrow.Author.Tests.{ltb-false}
-use Rattle.counting.proofs.Joined.{no-way, by-test, pick-true, pick-false}
+use Rattle.counting.proofs.Joined.{by-test, pick-true, pick-false, never}
 use Rattle.model.specs.declared.Word.the-variants.{ShortBuffer}
 use Rattle.model.specs.declared.Verdict.{Verdict}
 use Rattle.model.specs.declared.Verdict.the-variants.{Accepted, Refused}
@@ -30,12 +30,12 @@ put-first text out l = rw (sets-eq text out 0 (omega arith)) (take-append-seam t
 
 wrote : (v : Verdict) (text out : List ℕ) (len : ℕ) → answerAfter v text out ≡ write-answer.Written len → Wrote v text out len
 unfolding answerAfter outAfter lengthAnswer textOut
-wrote (Refused word place) text out len e = let z : _≡_ {A = ℕ} 0 1 = cc in no-way (omega arith)
+wrote (Refused word place) text out len e = never (cc)
 wrote Accepted text out len e =
     by-test
     (ltb (length out) (length text))
     (λ b. let q = sym (pick-true (write-answer.Refused ShortBuffer 0) (write-answer.Written (length text)) b) ∙ e in
-    let z : _≡_ {A = ℕ} 0 1 = cc in no-way (omega arith))
+    never (cc))
     (λ b. let q = sym (pick-false (write-answer.Refused ShortBuffer 0) (write-answer.Written (length text)) b) ∙ e in
     let same : length text ≡ len = cc in
     record {

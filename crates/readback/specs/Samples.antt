@@ -20,21 +20,26 @@ worked =
     #banner ++ (32 ∷ #matrix) ++ (32 ∷ #coordinate) ++ (32 ∷ #pattern) ++ (32 ∷ #general)
     ++ (10 ∷ 50 ∷ 32 ∷ 50 ∷ 32 ∷ 50 ∷ 10 ∷ 50 ∷ 32 ∷ 50 ∷ 10 ∷ 10 ∷ 49 ∷ 32 ∷ 49 ∷ 10 ∷ [])
 
+-- to unfold this is to unfold every definition that a sample computes with
+computing : Type 0
+unfolding lineBelow headerOf bannerAt numbersAt threeAt twoAt endsAt numberAt numberValue valueOf isNumber sameWord spells wordAt sizeLineAt skipped isComment emptyLine lineNext lineEnd hasReturn lineStop runEnd runsAt past digitOf cased lowered classOf between _and_ _or_ pick isEntry sum bit entryBelow entryAt
+computing = Unit
+
 -- three lines, and then the text's end
 line-offsets : (lineBelow worked 0 ≡ 55) × (lineBelow worked 1 ≡ 59) × (lineBelow worked 2 ≡ 60) × (lineBelow worked 3 ≡ length worked)
-unfolding lineBelow headerOf bannerAt numbersAt threeAt twoAt endsAt numberAt numberValue valueOf isNumber sameWord spells wordAt sizeLineAt skipped isComment emptyLine lineNext lineEnd hasReturn lineStop runEnd runsAt past digitOf cased lowered classOf between _and_ _or_ pick
+unfolding computing
 line-offsets = (refl, refl, refl, refl)
 
 -- the first and the third are entries, the empty one is not
 entry-lines : (isEntry worked 0 ≡ true) × (isEntry worked 1 ≡ false) × (isEntry worked 2 ≡ true) × (isEntry worked 3 ≡ false)
-unfolding isEntry lineBelow headerOf bannerAt numbersAt threeAt twoAt endsAt numberAt numberValue valueOf isNumber sameWord spells wordAt sizeLineAt skipped isComment emptyLine lineNext lineEnd hasReturn lineStop runEnd runsAt past digitOf cased lowered classOf between _and_ _or_ pick
+unfolding computing
 entry-lines = (refl, refl, refl, refl)
 
 entry-number : count (isEntry worked) (length worked) ≡ 2
-unfolding isEntry lineBelow headerOf bannerAt numbersAt threeAt twoAt endsAt numberAt numberValue valueOf isNumber sameWord spells wordAt sizeLineAt skipped isComment emptyLine lineNext lineEnd hasReturn lineStop runEnd runsAt past digitOf cased lowered classOf between sum _and_ _or_ pick bit
+unfolding computing
 entry-number = refl
 
 -- they give (2, 2) and (1, 1)
 entries : (entryBelow worked 0 ≡ (record { fine = true; first = 2; second = 2; third = 1 })) × (entryBelow worked 2 ≡ (record { fine = true; first = 1; second = 1; third = 1 }))
-unfolding entryBelow entryAt lineBelow headerOf bannerAt numbersAt threeAt twoAt endsAt numberAt numberValue valueOf isNumber sameWord spells wordAt sizeLineAt skipped isComment emptyLine lineNext lineEnd hasReturn lineStop runEnd runsAt past digitOf cased lowered classOf between _and_ _or_ pick
+unfolding computing
 entries = (refl, refl)

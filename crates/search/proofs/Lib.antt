@@ -5,6 +5,11 @@ pub mod TryLaws
 pub mod RunLaws
 pub mod Budgets
 pub mod Answered
+pub mod Handing
+pub mod Points
+pub mod RunTold
+pub mod ShowTold
+pub mod Wanting
 pub mod Demand3
 pub mod Shows
 pub mod Splits

@@ -41,6 +41,15 @@ byte-back σ (suc s) t parts fits b =
     ∙ byte-back σ s t parts (omega arith) l)
     (eq-or-lt-of-le (le-of-suc-le-suc b))
 
+-- a byte past the nonzeros stays
+pub bytes-rest :
+    (σ : Split) (nonzeros i : ℕ) (parts : List ℕ) → nonzeros ≤ i → getD (partBytes σ nonzeros parts) i 0 ≡ getD parts i 0
+unfolding partBytes
+bytes-rest σ zero i parts l = refl
+bytes-rest σ (suc t) i parts l =
+    getD-set-other (partBytes σ t parts) t i (partNumber (σ t)) 0 (λ e. no-way (omega arith))
+    ∙ bytes-rest σ t i parts (omega arith)
+
 -- the part of a part's number
 part-back : (p : Part) → pick (eqb (partNumber p) 0) Zero One ≡ p
 unfolding pick

@@ -10,7 +10,7 @@ use lib.Dec.{eqb, leb}
 use lib.ListN.{length, getD}
 use borrow.Author.Tests.{leb-true, eqb-true}
 use Rattle.counting.specs.Tests.{_and_}
-use Rattle.counting.proofs.Joined.{no-way, clash, and-left, and-right}
+use Rattle.counting.proofs.Joined.{clash, and-left, and-right, never}
 use Rattle.model.specs.declared.Verdict.the-variants.{Accepted}
 use Rattle.model.specs.declared.Search.{Search}
 use Rattle.model.specs.Limits.{lineLimit}
@@ -37,7 +37,7 @@ some-same : {a b : List ℕ} → _≡_ {A = Option (List ℕ)} (some a) (some b)
 some-same e = cc
 
 absurd-none : {A : Type 0} {a : List ℕ} → _≡_ {A = Option (List ℕ)} none (some a) → A
-absurd-none e = let z : _≡_ {A = ℕ} 0 1 = cc in no-way (omega arith)
+absurd-none e = never (cc)
 
 -- a trail that is not refused has at most k marks
 trail-short : (R : Rules) (complete : Bool) (τ : List ℕ) → trailFine R complete τ ≡ true → length τ ≤ R .k

@@ -1,17 +1,17 @@
 -- Laws of what a reading answers and gives.
 -- Assumes nothing.
 use mathlib.Core.Bool.{true, false}
-use mathlib.Core.List.{List}
+use mathlib.Core.List.{List, [], _∷_}
 use mathlib.Core.Path.{_≡_, refl, sym, _∙_, ap}
 use Prim.Native.Nat.{ℕ, _*_, _≤_}
-use native.Mathlib.Omega.{arith}
 use lib.ListN.{length}
-use Rattle.counting.proofs.Joined.{pick-true, pick-false}
+use Rattle.counting.specs.Tests.{bit}
+use Rattle.counting.proofs.Joined.{pick-true, pick-false, never}
 use Rattle.model.specs.declared.Word.{Word}
 use Rattle.model.specs.declared.Verdict.{Verdict}
 use Rattle.model.specs.declared.Verdict.the-variants.{Accepted, Refused}
 use Rattle.model.specs.Limits.{lineLimit}
-use Rattle.model.specs.Refusal.{_then_}
+use Rattle.model.specs.Refusal.{given, replyAfter, _then_}
 use Rattle.model.specs.Calls.{sizesVerdict}
 use Rattle.model.proofs.Theorems.Accepted.{then-second}
 use Rattle.pattern.proofs.Verdicts.{then-accepted, then-refused, then-first, rows-small}
@@ -21,12 +21,12 @@ use Rattle.texts.specs.declared.ReadAnswer.{ReadAnswer}
 use Rattle.texts.specs.declared.ReadAnswer.the-variants as read-answer
 use Rattle.texts.specs.Header.{headerOf, headVerdict}
 use Rattle.texts.specs.Entries.{noCells, Entries, entriesFrom}
-use Rattle.texts.specs.Reading.{listed, parted, givenParts, entriesBelow, answerAfter, outputAfter, listAfter, partsAfter, textVerdict, readVerdict, readCall, readList, readParts}
+use Rattle.texts.specs.Reading.{listed, parted, givenParts, entriesBelow, answerAfter, outputAfter, listAfter, partsAfter, textVerdict, readVerdict, readCall, readList, readParts, readReply}
 
 moved-fine : (v : Verdict) (place : ℕ) → moved v place ≡ Accepted → v ≡ Accepted
 unfolding moved
 moved-fine Accepted place h = refl
-moved-fine (Refused word at) place h = let z : _≡_ {A = ℕ} 0 1 = cc in absurd (omega arith)
+moved-fine (Refused word at) place h = never (cc)
 
 -- past the checks before the entries, m is in its range
 pub head-sizes :
@@ -150,3 +150,29 @@ module _
   pub read-parts-kept : (word : Word) (place : ℕ) → v ≡ Refused word place → parts ≡ readParts text list parts
   unfolding readParts
   read-parts-kept word place a = sym (output-kept word place _ parts (read-not word place a))
+
+-- a reading in numbers: m, n, N, and F as 0 or 1
+read-by-verdict :
+    (v : Verdict) (h : Header) →
+    readReply (answerAfter v h) ≡ replyAfter v (given (h .m ∷ h .n ∷ h .nonzeros ∷ bit (h .integer) ∷ []))
+unfolding readReply answerAfter replyAfter
+read-by-verdict Accepted h = refl
+read-by-verdict (Refused word place) h = refl
+
+module _ (text list parts : List ℕ) where
+  pub read-replies :
+      readReply (readCall text list parts)
+      ≡ replyAfter
+      (readVerdict text list parts)
+      (given (headerOf text .m ∷ headerOf text .n ∷ headerOf text .nonzeros ∷ bit (headerOf text .integer) ∷ []))
+  unfolding readCall
+  read-replies = read-by-verdict (readVerdict text list parts) (headerOf text)
+
+  -- an answer that equals the definition replies so
+  pub read-told :
+      {answer : ReadAnswer} → answer ≡ readCall text list parts →
+      readReply answer
+      ≡ replyAfter
+      (readVerdict text list parts)
+      (given (headerOf text .m ∷ headerOf text .n ∷ headerOf text .nonzeros ∷ bit (headerOf text .integer) ∷ []))
+  read-told e = ap readReply e ∙ read-replies

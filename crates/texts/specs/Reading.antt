@@ -1,15 +1,15 @@
 -- Document 01, 'Texts': what reading a text gives, for any text and any slices.
 -- Assumes nothing.
 use mathlib.Core.Bool.{Bool, true, false}
-use mathlib.Core.List.{List}
+use mathlib.Core.List.{List, [], _∷_}
 use Prim.Native.Nat.{ℕ, zero, suc, _+_, _-_, _*_, _/_, _%_}
 use lib.ListN.{length, getD, set}
-use Rattle.counting.specs.Tests.{pick}
+use Rattle.counting.specs.Tests.{pick, bit}
 use Rattle.counting.specs.Sums.{count}
 use Rattle.model.specs.declared.Verdict.{Verdict}
 use Rattle.model.specs.declared.Verdict.the-variants.{Accepted, Refused}
 use Rattle.model.specs.Limits.{lineLimit}
-use Rattle.model.specs.Refusal.{_then_}
+use Rattle.model.specs.Refusal.{Reply, given, refusal, _then_}
 use Rattle.model.specs.Pattern.{entryBytes}
 use Rattle.texts.specs.declared.Header.{Header}
 use Rattle.texts.specs.declared.ReadAnswer.{ReadAnswer}
@@ -90,3 +90,8 @@ readParts text list parts =
     (readVerdict text list parts)
     (givenParts (headerOf text) (entriesBelow text (headerOf text) .cells) parts)
     parts
+
+-- the number and values of each case of an answer: m, n, N, and F as 0 for pattern and 1 for integer
+unfoldable pub readReply : ReadAnswer → Reply
+readReply (read-answer.Read m n nonzeros integer) = given (m ∷ n ∷ nonzeros ∷ bit integer ∷ [])
+readReply (read-answer.Refused word place) = refusal word place

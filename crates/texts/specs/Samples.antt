@@ -7,7 +7,7 @@ use Prim.Native.Nat.{ℕ}
 use Rattle.counting.specs.Tests.{_and_, _or_, pick, bit}
 use Rattle.counting.specs.Sums.{sum}
 use Rattle.model.specs.declared.Word.the-variants.{Banner, SizeLine, EntryForm, TooBig, OffMatrix, Repeated, Count, BadPart, ShortBuffer}
-use Rattle.model.specs.Refusal.{refuse, _then_}
+use Rattle.model.specs.Refusal.{given, refusal, refuse, _then_}
 use Rattle.model.specs.Calls.{outside, sizesVerdict}
 use Rattle.scanning.specs.Classes.{between, classOf, lowered, cased, digitOf}
 use Rattle.scanning.specs.Checks.{moved}
@@ -16,7 +16,7 @@ use Rattle.scanning.specs.Words.{wordAt, spells, sameWord, isNumber, valueOf, n
 use Rattle.texts.specs.declared.ReadAnswer.the-variants as read-answer
 use Rattle.texts.specs.Header.{bannerAt, headerOf, short, headVerdict}
 use Rattle.texts.specs.Entries.{entryAt, cellOf, noCells, isGiven, cellMark, entryCheck, lineVerdict, noted, endVerdict, after, entriesFrom}
-use Rattle.texts.specs.Reading.{listCell, partCell, listed, parted, givenParts, entriesBelow, answerAfter, outputAfter, textVerdict, readVerdict, readCall, readList, readParts}
+use Rattle.texts.specs.Reading.{listCell, partCell, listed, parted, givenParts, entriesBelow, answerAfter, outputAfter, textVerdict, readVerdict, readCall, readList, readParts, readReply}
 
 -- %%MatrixMarket matrix coordinate pattern general, LF
 abbrev pattern-line : List ℕ
@@ -206,3 +206,16 @@ part-three-text = 49 ∷ 32 ∷ 49 ∷ 32 ∷ 49 ∷ 10 ∷ 49 ∷ 32 ∷ 49 ∷
 part-three : readCall (integer-line ++ part-three-text) room room ≡ read-answer.Refused BadPart 58
 unfolding readCall readList readParts readVerdict textVerdict entriesBelow answerAfter outputAfter givenParts listed parted listCell partCell entriesFrom after endVerdict noted lineVerdict entryCheck cellMark isGiven noCells cellOf entryAt headVerdict short headerOf bannerAt moved numbersAt threeAt twoAt endsAt numberAt numberValue valueOf isNumber sameWord spells wordAt sizeLineAt skipped isComment emptyLine lineNext lineEnd hasReturn lineStop runEnd runsAt past digitOf cased lowered classOf between refuse _then_ sizesVerdict outside sum _and_ _or_ pick bit
 part-three = refl
+
+-- the same in numbers: m, n, N, and F as 0 or 1
+pattern-reply : readReply (read-answer.Read 2 3 4 false) ≡ record { number = 0; place = 0; values = 2 ∷ 3 ∷ 4 ∷ 0 ∷ [] }
+unfolding readReply given bit
+pattern-reply = refl
+
+integer-reply : readReply (read-answer.Read 2 3 4 true) ≡ record { number = 0; place = 0; values = 2 ∷ 3 ∷ 4 ∷ 1 ∷ [] }
+unfolding readReply given bit
+integer-reply = refl
+
+again-reply : readReply (read-answer.Refused Repeated 63) ≡ record { number = 6; place = 63; values = [] }
+unfolding readReply refusal
+again-reply = refl

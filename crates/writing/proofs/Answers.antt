@@ -1,7 +1,7 @@
 -- Laws of what the writer answers and leaves.
 -- Assumes nothing.
 use mathlib.Core.Bool.{Bool, true, false}
-use mathlib.Core.List.{List}
+use mathlib.Core.List.{List, [], _∷_}
 use mathlib.Core.Path.{_≡_, refl, sym, _∙_, ap}
 use Prim.Native.Nat.{ℕ, _+_, _*_, _≤_, _<_}
 use native.Mathlib.Omega.{arith}
@@ -10,12 +10,12 @@ use lib.ListN.{length}
 use lib.Seq.{sets}
 use borrow.Author.Tests.{lt-ltb, le-ltb}
 use Rattle.counting.specs.Tests.{_or_, pick}
-use Rattle.counting.proofs.Joined.{no-way, by-test, pick-true, pick-false}
+use Rattle.counting.proofs.Joined.{by-test, pick-true, pick-false, never}
 use Rattle.model.specs.declared.Word.{Word}
 use Rattle.model.specs.declared.Word.the-variants.{ShortBuffer}
 use Rattle.model.specs.declared.Verdict.{Verdict}
 use Rattle.model.specs.declared.Verdict.the-variants.{Accepted, Refused}
-use Rattle.model.specs.Refusal.{refuse, _then_}
+use Rattle.model.specs.Refusal.{given, replyAfter, refuse, _then_}
 use Rattle.model.specs.Calls.{sizesVerdict}
 use Rattle.pattern.specs.Checks.{eachVerdict}
 use Rattle.pattern.proofs.Verdicts.{then-accepted, then-refused, then-first, nonzeros-small}
@@ -23,7 +23,7 @@ use Rattle.writing.specs.declared.Figures.{Figures}
 use Rattle.writing.specs.declared.WriteAnswer.{WriteAnswer}
 use Rattle.writing.specs.declared.WriteAnswer.the-variants as write-answer
 use Rattle.writing.specs.Written.{Puts, textOf}
-use Rattle.writing.specs.Writing.{nonzeroVerdict, writeVerdict, lengthAnswer, textOut, answerAfter, outAfter, writeCall, writeOut}
+use Rattle.writing.specs.Writing.{nonzeroVerdict, writeVerdict, lengthAnswer, textOut, answerAfter, outAfter, writeCall, writeOut, writeReply}
 
 -- the checks one after another
 module _ (m n nonzeros : ℕ) (list parts : List ℕ) where
@@ -94,12 +94,12 @@ left-by :
     (v : Verdict) (text out : List ℕ) (len : ℕ) → answerAfter v text out ≡ write-answer.Written len →
     Puts out 0 text (outAfter v text out) len
 unfolding answerAfter outAfter lengthAnswer textOut
-left-by (Refused word place) text out len e = let z : _≡_ {A = ℕ} 0 1 = cc in no-way (omega arith)
+left-by (Refused word place) text out len e = never (cc)
 left-by Accepted text out len e =
     by-test
     (ltb (length out) (length text))
     (λ b. let q = sym (pick-true (write-answer.Refused ShortBuffer 0) (write-answer.Written (length text)) b) ∙ e in
-    let z : _≡_ {A = ℕ} 0 1 = cc in no-way (omega arith))
+    never (cc))
     (λ b. let q = sym (pick-false (write-answer.Refused ShortBuffer 0) (write-answer.Written (length text)) b) ∙ e in
     let same : length text ≡ len = cc in
     record { after = omega arith; bytes = pick-false out (sets out 0 text) b })
@@ -114,7 +114,7 @@ kept-by Accepted text out word place e =
     (ltb (length out) (length text))
     (λ b. pick-true out (sets out 0 text) b)
     (λ b. let q = sym (pick-false (write-answer.Refused ShortBuffer 0) (write-answer.Written (length text)) b) ∙ e in
-    let z : _≡_ {A = ℕ} 0 1 = cc in no-way (omega arith))
+    never (cc))
 
 module _ (m n nonzeros : ℕ) (list parts : List ℕ) (f : Figures) (out : List ℕ) where
   pub write-puts :
@@ -128,3 +128,40 @@ module _ (m n nonzeros : ℕ) (list parts : List ℕ) (f : Figures) (out : List 
       writeOut m n nonzeros list parts f out ≡ out
   unfolding writeCall writeOut
   write-keeps word place e = kept-by (writeVerdict m n nonzeros list parts) (textOf m n nonzeros list parts f) out word place e
+
+-- a writing in numbers: the text's length, or 9 where the output has no room for it
+length-replies :
+    (short : Bool) (len : ℕ) →
+    writeReply (pick short (write-answer.Refused ShortBuffer 0) (write-answer.Written len))
+    ≡ replyAfter (refuse short ShortBuffer 0) (given (len ∷ []))
+unfolding writeReply pick replyAfter refuse
+length-replies true len = refl
+length-replies false len = refl
+
+write-by-verdict :
+    (v : Verdict) (text out : List ℕ) →
+    writeReply (answerAfter v text out)
+    ≡ replyAfter (v then refuse (ltb (length out) (length text)) ShortBuffer 0) (given (length text ∷ []))
+unfolding writeReply answerAfter lengthAnswer replyAfter _then_
+write-by-verdict Accepted text out = length-replies (ltb (length out) (length text)) (length text)
+write-by-verdict (Refused word place) text out = refl
+
+module _ (m n nonzeros : ℕ) (list parts : List ℕ) (f : Figures) (out : List ℕ) where
+  pub write-replies :
+      let text = textOf m n nonzeros list parts f in
+      writeReply (writeCall m n nonzeros list parts f out)
+      ≡ replyAfter
+      (writeVerdict m n nonzeros list parts then refuse (ltb (length out) (length text)) ShortBuffer 0)
+      (given (length text ∷ []))
+  unfolding writeCall
+  write-replies = write-by-verdict (writeVerdict m n nonzeros list parts) (textOf m n nonzeros list parts f) out
+
+  -- an answer that equals the definition replies so
+  pub write-told :
+      {answer : WriteAnswer} → answer ≡ writeCall m n nonzeros list parts f out →
+      let text = textOf m n nonzeros list parts f in
+      writeReply answer
+      ≡ replyAfter
+      (writeVerdict m n nonzeros list parts then refuse (ltb (length out) (length text)) ShortBuffer 0)
+      (given (length text ∷ []))
+  write-told e = ap writeReply e ∙ write-replies

@@ -8,7 +8,7 @@ use lib.ListN.{length, replicate}
 use Rattle.counting.specs.Tests.{_and_, _or_, pick, bit}
 use Rattle.counting.specs.Sums.{sum}
 use Rattle.model.specs.declared.Word.the-variants.{TooBig, OffMatrix, BadPart, ShortBuffer, Order}
-use Rattle.model.specs.Refusal.{refuse, _then_}
+use Rattle.model.specs.Refusal.{given, refusal, refuse, _then_}
 use Rattle.model.specs.Pattern.{rowIn, columnIn}
 use Rattle.model.specs.Calls.{outside, sizesVerdict, rises, entryVerdict}
 use Rattle.pattern.specs.Checks.{eachVerdict}
@@ -25,7 +25,7 @@ use Rattle.texts.specs.Reading as reading
 use Rattle.writing.specs.declared.Figures.{Figures}
 use Rattle.writing.specs.declared.WriteAnswer.the-variants as write-answer
 use Rattle.writing.specs.Written.{decimals, numberText, figureText, endingText, commentText, sizesText, entryText, entriesText, headText, bodyText, textOf}
-use Rattle.writing.specs.Writing.{nonzeroVerdict, writeVerdict, lengthAnswer, textOut, answerAfter, outAfter, writeCall, writeOut}
+use Rattle.writing.specs.Writing.{nonzeroVerdict, writeVerdict, lengthAnswer, textOut, answerAfter, outAfter, writeCall, writeOut, writeReply}
 
 -- the 2 by 2 diagonal, with its nonzeros in different parts, and the figures of document 01's sample
 abbrev diagonal : List ℕ
@@ -89,3 +89,12 @@ unsorted = refl
 short-parts : writeCall 2 2 2 (5 ∷ 5 ∷ 5 ∷ 5 ∷ []) (1 ∷ []) figures [] ≡ write-answer.Refused ShortBuffer 0
 unfolding writeCall writeOut writeVerdict nonzeroVerdict lengthAnswer textOut answerAfter outAfter textOf headText bodyText entriesText entryText sizesText commentText endingText figureText numberText decimals eachVerdict partVerdict entryVerdict rises rowIn columnIn refuse _then_ sizesVerdict outside _and_ _or_ pick
 short-parts = refl
+
+-- the same in numbers: the text's length
+written-reply : writeReply (write-answer.Written 110) ≡ record { number = 0; place = 0; values = 110 ∷ [] }
+unfolding writeReply given
+written-reply = refl
+
+unsorted-reply : writeReply (write-answer.Refused Order 1) ≡ record { number = 10; place = 1; values = [] }
+unfolding writeReply refusal
+unsorted-reply = refl

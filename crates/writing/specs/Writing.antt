@@ -1,6 +1,6 @@
 -- Document 01, 'Refusal table' and 'Texts': what the writer answers and leaves in its output, for any values.
 -- Assumes nothing.
-use mathlib.Core.List.{List}
+use mathlib.Core.List.{List, [], _∷_}
 use Prim.Native.Nat.{ℕ, _*_}
 use lib.Dec.{ltb}
 use lib.ListN.{length}
@@ -9,7 +9,7 @@ use Rattle.counting.specs.Tests.{_or_, pick}
 use Rattle.model.specs.declared.Word.the-variants.{ShortBuffer}
 use Rattle.model.specs.declared.Verdict.{Verdict}
 use Rattle.model.specs.declared.Verdict.the-variants.{Accepted, Refused}
-use Rattle.model.specs.Refusal.{refuse, _then_}
+use Rattle.model.specs.Refusal.{Reply, given, refusal, refuse, _then_}
 use Rattle.model.specs.Pattern.{entryBytes}
 use Rattle.model.specs.Calls.{sizesVerdict, entryVerdict}
 use Rattle.pattern.specs.Checks.{eachVerdict}
@@ -58,3 +58,8 @@ writeCall m n nonzeros list parts f out =
 unfoldable pub writeOut : ℕ → ℕ → ℕ → List ℕ → List ℕ → Figures → List ℕ → List ℕ
 writeOut m n nonzeros list parts f out =
     outAfter (writeVerdict m n nonzeros list parts) (textOf m n nonzeros list parts f) out
+
+-- the number and values of each case of an answer: the text's length
+unfoldable pub writeReply : WriteAnswer → Reply
+writeReply (write-answer.Written len) = given (len ∷ [])
+writeReply (write-answer.Refused word place) = refusal word place

@@ -2,7 +2,7 @@
 -- Assumes nothing.
 use borrow.Author.Needs.{needs}
 use native.Mathlib.Omega.{arith}
-use Rattle.model.specs.Refusal.{refusalCode}
+use Rattle.model.specs.Refusal.{refusalCode, replyCode, refusal}
 use Rattle.gulzoreno.proofs.Places.{number-small}
 use Rattle.gulzoreno.proofs.refusal_code.Statement.{statement}
 use Rattle.gulzoreno.proofs.refusal_code.Tie as tie
@@ -17,7 +17,7 @@ add-result : tie.Need-add-result
 add-result c = omega (arith, number-small (c .before .args .word), c .refusal-number .ensures)
 
 returns : tie.Need-returns
-unfolding refusalCode
+unfolding refusalCode replyCode refusal
 returns c = search needs
 
 pub refusal-code-spec : {M : Type 1} → statement M

@@ -45,7 +45,7 @@ returns c =
     let shown = c .before .before .before .before .before .before .before .before .before in
     let run = c .before .before .before .before .before .before .before .before .before .before .before .before in
     let a = c .before .before .before .before .before .before .before .before .before .before .before .before .before .before .before .before .args in
-    (split-code (a .search) (a .m) (a .n) (a .nonzeros) (a .list .now) (a .budget) (a .parts .now) (a .figures .now) _ (run .run .ensures) _ (shown .show .ensures .0) _ _ (told .shown .given .1), (parts-shown (a .search) (a .m) (a .n) (a .nonzeros) (a .list .now) (a .budget) (a .parts .now) (a .figures .now) _ (run .run .ensures) _ (shown .show .ensures .1), split-figures (a .search) (a .m) (a .n) (a .nonzeros) (a .list .now) (a .budget) (a .parts .now) (a .figures .now) _ (run .run .ensures) _ (shown .show .ensures .0) _ _ _ (told .shown .given .1) (written .put-figures .ensures)))
+    (split-code (a .search) (a .m) (a .n) (a .nonzeros) (a .list .now) (a .budget) (a .parts .now) (a .figures .now) _ (run .run .ensures .0) _ (shown .show .ensures .0) _ _ (told .shown .given .1), (parts-shown (a .search) (a .m) (a .n) (a .nonzeros) (a .list .now) (a .budget) (a .parts .now) (a .figures .now) _ (run .run .ensures .0) _ (shown .show .ensures .1 .0), split-figures (a .search) (a .m) (a .n) (a .nonzeros) (a .list .now) (a .budget) (a .parts .now) (a .figures .now) _ (run .run .ensures .0) _ (shown .show .ensures .0) _ _ _ (told .shown .given .1) (written .put-figures .ensures)))
 
 same-length-3 : tie.Need-same-length-3
 same-length-3 c = search needs
@@ -56,7 +56,7 @@ returns-2 c =
     let shown = c .before .before .before .before in
     let run = c .before .before .before .before .before .before .before in
     let a = c .before .before .before .before .before .before .before .before .before .before .before .args in
-    (unshown-code (a .search) (a .m) (a .n) (a .nonzeros) (a .list .now) (a .budget) (a .parts .now) (a .figures .now) _ (run .run .ensures) _ (shown .show .ensures .0) (told .match .keys2), (parts-shown (a .search) (a .m) (a .n) (a .nonzeros) (a .list .now) (a .budget) (a .parts .now) (a .figures .now) _ (run .run .ensures) _ (shown .show .ensures .1), unshown-figures (a .search) (a .m) (a .n) (a .nonzeros) (a .list .now) (a .budget) (a .parts .now) (a .figures .now) _ (run .run .ensures) _ (shown .show .ensures .0) (told .match .keys2)))
+    (unshown-code (a .search) (a .m) (a .n) (a .nonzeros) (a .list .now) (a .budget) (a .parts .now) (a .figures .now) _ (run .run .ensures .0) _ (shown .show .ensures .0) (told .match .keys2), (parts-shown (a .search) (a .m) (a .n) (a .nonzeros) (a .list .now) (a .budget) (a .parts .now) (a .figures .now) _ (run .run .ensures .0) _ (shown .show .ensures .1 .0), unshown-figures (a .search) (a .m) (a .n) (a .nonzeros) (a .list .now) (a .budget) (a .parts .now) (a .figures .now) _ (run .run .ensures .0) _ (shown .show .ensures .0) (told .match .keys2)))
 
 same-length-4 : tie.Need-same-length-4
 same-length-4 c = search needs
@@ -67,7 +67,7 @@ returns-3 c =
     let shown = c .before .before .before .before .before .before in
     let run = c .before .before .before .before .before .before .before .before .before in
     let a = c .before .before .before .before .before .before .before .before .before .before .before .before .before .args in
-    (refused-code (a .search) (a .m) (a .n) (a .nonzeros) (a .list .now) (a .budget) (a .parts .now) (a .figures .now) _ (run .run .ensures) _ (shown .show .ensures .0) _ _ (told .shown2 .given .1) _ (c .refusal-code .ensures), (parts-shown (a .search) (a .m) (a .n) (a .nonzeros) (a .list .now) (a .budget) (a .parts .now) (a .figures .now) _ (run .run .ensures) _ (shown .show .ensures .1), refused-figures (a .search) (a .m) (a .n) (a .nonzeros) (a .list .now) (a .budget) (a .parts .now) (a .figures .now) _ (run .run .ensures) _ (shown .show .ensures .0) _ _ (told .shown2 .given .1)))
+    (refused-code (a .search) (a .m) (a .n) (a .nonzeros) (a .list .now) (a .budget) (a .parts .now) (a .figures .now) _ (run .run .ensures .0) _ (shown .show .ensures .0) _ _ (told .shown2 .given .1) _ (c .refusal-code .ensures), (parts-shown (a .search) (a .m) (a .n) (a .nonzeros) (a .list .now) (a .budget) (a .parts .now) (a .figures .now) _ (run .run .ensures .0) _ (shown .show .ensures .1 .0), refused-figures (a .search) (a .m) (a .n) (a .nonzeros) (a .list .now) (a .budget) (a .parts .now) (a .figures .now) _ (run .run .ensures .0) _ (shown .show .ensures .0) _ _ (told .shown2 .given .1)))
 
 pub run-and-show-spec : {M : Type 1} → statement M
 run-and-show-spec =

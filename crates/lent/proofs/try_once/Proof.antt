@@ -47,6 +47,7 @@ use denote.Triple.Clauses.{ensured}
 use Rattle.model.specs.Calls.{runCall}
 use Rattle.model.specs.declared.Search.{Search}
 use Rattle.model.specs.declared.Ran.{Ran}
+use Rattle.model.proofs.Theorems.Replies.{run-told}
 use Rattle.model.proofs.Search as T
 use Rattle.model.proofs.Search.Laws as T′
 use Rattle.model.proofs.Ran as R
@@ -84,7 +85,7 @@ module _ {M : Type 1} (𝓤 : URA M) (H : Heap 𝓤) (A : Atoms 𝓤) (W : Given
       → ent 𝓤 (⋆ 𝓤 H A (‵ (fobs γ (T.the-row .coded .code (r .search))) ∷ ‵ (fbor κ (Body (mem T.the-row) b o γ)) ∷ ‵ (flft κ q) ∷ ‵ (N.the-row .own (r .answer) (w ∷ [])) ∷ (‵ (flft κ′ q′) ⊛ ‵ ftrue) ∷ ‵ (S κs .own y (slice y ∷ [])) ∷ [])) (Post w)
   exits w r e =
       qed W (‵ (fobs γ (T.the-row .coded .code (r .search))) ∷ ‵ (fbor κ (Body (mem T.the-row) b o γ)) ∷ ‵ (flft κ q) ∷ ‵ (N.the-row .own (r .answer) (w ∷ [])) ∷ (‵ (flft κ′ q′) ⊛ ‵ ftrue) ∷ ‵ (S κs .own y (slice y ∷ [])) ∷ []) ∵
-      suffices ! _ (ends-at 𝓤 H A lent.ended stayed (lent.clauses 𝓤 H A at-mem run) W ((κs, (q, (q′, tt)), tt, x, at), tt) w (r .answer) (r .search, (tt, (tt, (tt, (tt, tt))))) (tt, (tt, (tt, (tt, (tt, tt)))))) $ says ! (ap (λ (a : Ran). a .answer) e, ap (λ (a : Ran). a .search) e) $ move ! (2 ∷ 4 ∷ []) $ join ! $
+      suffices ! _ (ends-at 𝓤 H A lent.ended stayed (lent.clauses 𝓤 H A at-mem run) W ((κs, (q, (q′, tt)), tt, x, at), tt) w (r .answer) (r .search, (tt, (tt, (tt, (tt, tt))))) (tt, (tt, (tt, (tt, (tt, tt)))))) $ says ! (ap (λ (a : Ran). a .answer) e, ap (λ (a : Ran). a .search) e, run-told h m n nz (now y) 1 e .1) $ move ! (2 ∷ 4 ∷ []) $ join ! $
       frame ! $ feqI ! (List Val) (vptr b o ∷ []) (vptr b o ∷ []) refl $ fjoin3 ! $ nothing ! $ move ! (3 ∷ 0 ∷ []) $ fjoin ! $
       owned ! u64 (Is u64) (uint-makes 𝓤 H A W w64) nz _ (refl, fits-nz) $ fjoin ! $ owned ! u64 (Is u64) (uint-makes 𝓤 H A W w64) n _ (refl, fits-n) $ fjoin ! $ owned ! u64 (Is u64) (uint-makes 𝓤 H A W w64) m _ (refl, fits-m) $ fjoin ! $
       move ! (1 ∷ 0 ∷ []) $ fjoin ! $ frame ! $ done !

@@ -2,7 +2,7 @@
 -- Assumes nothing.
 use mathlib.Core.Bool.{Bool}
 use mathlib.Core.List.{List}
-use mathlib.Core.Path.{_≡_, refl, sym, _∙_, ap}
+use mathlib.Core.Path.{_≡_, refl, _∙_, ap}
 use Prim.Native.Nat.{ℕ, _+_, _*_, _<_}
 use native.Mathlib.Omega.{arith}
 use lib.Dec.{eqb, ltb}
@@ -11,7 +11,7 @@ use Rattle.counting.specs.Sums.{sum, count, any}
 use Rattle.counting.proofs.Joined.{or-eq}
 use Rattle.counting.proofs.Summed.{sum-eq}
 use Rattle.counting.proofs.Counted.{count-eq, any-eq}
-use Rattle.model.specs.Pattern.{Pattern, Inside, entryBytes, rowIn, columnIn, patternOf, lines, rowLine, columnLine, on, lineCount, nonempty, lineTotal}
+use Rattle.model.specs.Pattern.{Pattern, entryBytes, rowIn, columnIn, patternOf, lines, rowLine, columnLine, on, lineCount, nonempty, lineTotal}
 use Rattle.model.specs.Marking.{markAt, marking, precedes, place}
 
 -- the same m, n and N, and each nonzero in the same row and column
@@ -31,26 +31,6 @@ alike-self P =
       size-same = refl;
       row-same = λ t b. refl;
       column-same = λ t b. refl;
-    }
-
--- and the other way round
-pub alike-back : {P Q : Pattern} → Alike P Q → Alike Q P
-alike-back a =
-    record {
-      m-same = sym (a .m-same);
-      n-same = sym (a .n-same);
-      size-same = sym (a .size-same);
-      row-same = λ t b. sym (a .row-same t (omega (arith, a .size-same)));
-      column-same = λ t b. sym (a .column-same t (omega (arith, a .size-same)));
-    }
-
--- a pattern alike to one with every nonzero in the matrix
-pub alike-inside : {P Q : Pattern} → Alike P Q → Inside P → Inside Q
-alike-inside a i =
-    let b = alike-back a in
-    record {
-      row-in = λ t c. omega (arith, b .m-same, b .row-same t c, i .row-in t (omega (arith, b .size-same)));
-      column-in = λ t c. omega (arith, b .n-same, b .column-same t c, i .column-in t (omega (arith, b .size-same)));
     }
 
 -- the patterns of two lists that begin with the same bytes

@@ -11,7 +11,7 @@ use lib.Dec.{eqb, ltb, leb}
 use lib.ListN.{length}
 use borrow.Author.Tests.{ltb-false, leb-false, eqb-false, not-false}
 use Rattle.counting.specs.Tests.{_or_}
-use Rattle.counting.proofs.Joined.{no-way, clash, or-fails-left, or-fails-right}
+use Rattle.counting.proofs.Joined.{no-way, or-fails-left, or-fails-right, never}
 use Rattle.model.specs.declared.Word.{Word}
 use Rattle.model.specs.declared.Word.the-variants.{TooBig, OffMatrix, ShortBuffer, Order, Cap, NoSplit}
 use Rattle.model.specs.declared.Verdict.{Verdict}
@@ -23,7 +23,7 @@ use Rattle.model.specs.Calls.{outside, sizesVerdict, rises, entryVerdict
 
 -- a refusal is no acceptance
 refused-not : {A : Type 0} {word : Word} {place : ℕ} → Refused word place ≡ Accepted → A
-refused-not e = let z : _≡_ {A = ℕ} 0 1 = cc in no-way (omega arith)
+refused-not e = never (cc)
 
 -- checks that refuse nothing, one after the other
 pub then-first : (v w : Verdict) → v then w ≡ Accepted → v ≡ Accepted

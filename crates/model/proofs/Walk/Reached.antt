@@ -10,7 +10,7 @@ use borrow.Author.Tests.{le-leb, eq-eqb}
 use Rattle.model.specs.Limits.{capLimit, triesLimit}
 use Rattle.model.specs.Walk.{Record, Rules, fresh, isEmpty, tried, improved, tryOnce}
 use Rattle.model.specs.State.{trailFine, bestFine, stateFine}
-use Rattle.counting.proofs.Joined.{and-intro, no-way}
+use Rattle.counting.proofs.Joined.{and-intro, never}
 use Rattle.model.proofs.Walk.Sound.{Sound, empty-valid}
 use Rattle.model.proofs.Walk.Steps.{after, try-keeps, walk-keeps}
 use Rattle.model.proofs.Walk.Legal.{Legal, Orderly, BestIs, walk-orderly}
@@ -79,7 +79,7 @@ orderly-fine {R} {m} {n} {nonzeros} {cap} r h o enough small few found =
 
 -- an exact result has a best marking
 exact-found : {R : Rules} {r : Record} {A : Type 0} → Exact R r → r .best ≡ none → A
-exact-found {R} {r} e missing = let z : _≡_ {A = ℕ} 0 1 = cc (e .best) in no-way (omega arith)
+exact-found {R} {r} e missing = never (cc (e .best))
 
 -- a walk without a best marking is not complete
 pub none-going : {R : Rules} (m n nonzeros cap tries : ℕ) → Sound R

@@ -4,6 +4,7 @@ use mathlib.Core.Path.{_≡_, sym, _∙_}
 use native.Mathlib.Omega.{arith}
 use Rattle.model.specs.declared.Verdict.the-variants.{Accepted}
 use Rattle.model.specs.Calls.{openVerdict}
+use Rattle.model.proofs.Theorems.Replies.{open-told}
 use Rattle.model.proofs.Theorems.Accepted.{ListFine, list-accepted, OpenFine, open-accepted}
 use Rattle.pattern.proofs.Verdicts.{accepted-tag}
 use Rattle.search.proofs.Openings.{open-answer, open-refused}
@@ -16,7 +17,7 @@ accepted :
     (c : tie.At-match-keys1) →
     let a = c .before .before .before .args in
     openVerdict (a .m) (a .n) (a .nonzeros) (a .list .now) (a .cap) ≡ Accepted
-accepted c = sym (c .before .open-verdict .ensures) ∙ accepted-tag _ (c .match .keys1)
+accepted c = sym (c .before .open-verdict .ensures .0) ∙ accepted-tag _ (c .match .keys1)
 
 fine :
     (c : tie.At-match-keys1) →
@@ -52,10 +53,10 @@ no-search-requires : tie.Need-no-search-requires
 no-search-requires c κs = search needs
 
 returns : tie.Need-returns
-returns c = open-answer _ _ _ _ _ _ _ (accepted (c .before .before .before)) (c .before .line-total .ensures) (c .fresh-search .ensures)
+returns c = open-told _ _ _ _ _ (open-answer _ _ _ _ _ _ _ (accepted (c .before .before .before)) (c .before .line-total .ensures) (c .fresh-search .ensures))
 
 returns-2 : tie.Need-returns-2
-returns-2 c = open-refused _ _ _ _ _ _ _ _ (sym (c .before .before .before .before .open-verdict .ensures) ∙ c .before .before .verdict .given .1) (c .no-search .ensures)
+returns-2 c = open-told _ _ _ _ _ (open-refused _ _ _ _ _ _ _ _ (sym (c .before .before .before .before .open-verdict .ensures .0) ∙ c .before .before .verdict .given .1) (c .no-search .ensures))
 
 pub open-spec : {M : Type 1} → statement M
 open-spec =

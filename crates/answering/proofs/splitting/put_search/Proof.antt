@@ -21,7 +21,7 @@ same-length : tie.Need-same-length
 same-length c = search needs
 
 returns : tie.Need-returns
-returns c = let a = c .before .before .before .before .before .before .before .before .before .before .args in let h = c .before .before .before .before .before .before in search-shown (a .search) (a .m) (a .n) (a .nonzeros) (a .list .now) _ (a .out .now) _ _ (h .show .result) (h .show .ensures .0) (h .show .ensures .1) (shown-line (a .search) (a .m) (a .n) (a .nonzeros) (a .list .now) _ (a .out .now) (h .show .result) _ _ (c .before .before .before .before .match .keys2) (c .before .before .put-line .ensures))
+returns c = let a = c .before .before .before .before .before .before .before .before .before .before .args in let h = c .before .before .before .before .before .before in search-shown (a .search) (a .m) (a .n) (a .nonzeros) (a .list .now) _ (a .out .now) _ _ (h .show .result) (h .show .ensures .0) (h .show .ensures .1 .0) (shown-line (a .search) (a .m) (a .n) (a .nonzeros) (a .list .now) _ (a .out .now) (h .show .result) _ _ (c .before .before .before .before .match .keys2) (c .before .before .put-line .ensures))
 
 slice-aggregate-put-split : tie.Need-slice-aggregate-put-split
 slice-aggregate-put-split c = search needs
@@ -33,7 +33,7 @@ same-length-2 : tie.Need-same-length-2
 same-length-2 c = search needs
 
 returns-2 : tie.Need-returns-2
-returns-2 c = let a = c .before .before .before .before .before .before .before .before .before .before .before .before .before .args in let h = c .before .before .before .before .before .before .before .before .before in search-shown (a .search) (a .m) (a .n) (a .nonzeros) (a .list .now) _ (a .out .now) _ _ (h .show .result) (h .show .ensures .0) (h .show .ensures .1) (shown-split (a .search) (a .m) (a .n) (a .nonzeros) (a .list .now) _ (a .out .now) (h .show .result) _ _ _ _ (c .before .before .before .before .before .before .shown .given .1) (c .before .before .put-split .ensures))
+returns-2 c = let a = c .before .before .before .before .before .before .before .before .before .before .before .before .before .args in let h = c .before .before .before .before .before .before .before .before .before in search-shown (a .search) (a .m) (a .n) (a .nonzeros) (a .list .now) _ (a .out .now) _ _ (h .show .result) (h .show .ensures .0) (h .show .ensures .1 .0) (shown-split (a .search) (a .m) (a .n) (a .nonzeros) (a .list .now) _ (a .out .now) (h .show .result) _ _ _ _ (c .before .before .before .before .before .before .shown .given .1) (c .before .before .put-split .ensures))
 
 pub put-search-spec : {M : Type 1} → statement M
 put-search-spec =

@@ -7,17 +7,18 @@ use borrow.Author.Tests.{lt-ltb, le-ltb}
 use Rattle.model.specs.Refusal.{refuse, _then_}
 use Rattle.model.specs.Calls.{capCall, capAfter, capVerdict}
 use Rattle.model.specs.Split.{capFromPercent}
+use Rattle.model.proofs.Theorems.Replies.{cap-told}
 use borrow.Author.Needs.{needs}
 use Rattle.pattern.proofs.cap.cap_from_percent.Statement.{statement}
 use Rattle.pattern.proofs.cap.cap_from_percent.Tie as tie
 
 returns : tie.Need-returns
 unfolding capCall capVerdict capAfter _then_ refuse capFromPercent
-returns c = simp (lt-ltb _ _ (c .if1 .taken))
+returns c = cap-told (c .before .args .nonzeros) (c .before .args .percent) (simp (lt-ltb _ _ (c .if1 .taken)))
 
 returns-2 : tie.Need-returns-2
 unfolding capCall capVerdict capAfter _then_ refuse capFromPercent
-returns-2 c = simp (le-ltb _ _ (c .before .if1 .left), lt-ltb _ _ (c .if2 .taken))
+returns-2 c = cap-told (c .before .before .args .nonzeros) (c .before .before .args .percent) (simp (le-ltb _ _ (c .before .if1 .left), lt-ltb _ _ (c .if2 .taken)))
 
 add-t6 : tie.Need-add-t6
 add-t6 c = search needs
@@ -30,7 +31,7 @@ mul-t7 c =
 
 returns-3 : tie.Need-returns-3
 unfolding capCall capVerdict capAfter _then_ refuse capFromPercent
-returns-3 c = simp (le-ltb _ _ (c .before .if1 .left), le-ltb _ _ (c .if2 .left))
+returns-3 c = cap-told (c .before .before .args .nonzeros) (c .before .before .args .percent) (simp (le-ltb _ _ (c .before .if1 .left), le-ltb _ _ (c .if2 .left)))
 
 pub cap-from-percent-spec : {M : Type 1} → statement M
 cap-from-percent-spec = tie.close (tie.spec returns returns-2 add-t6 mul-t7 returns-3)

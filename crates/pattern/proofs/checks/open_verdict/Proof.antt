@@ -1,5 +1,6 @@
 -- `pattern::open_verdict` meets its contract. Checks may be grouped.
 -- Assumes nothing.
+use Rattle.model.proofs.Theorems.Replies.{verdict-told}
 use Rattle.pattern.proofs.Verdicts.{open-is}
 use borrow.Author.Needs.{needs}
 use Rattle.pattern.proofs.checks.open_verdict.Statement.{statement}
@@ -15,7 +16,7 @@ and-then-requires : tie.Need-and-then-requires
 and-then-requires c κs = search needs
 
 returns : tie.Need-returns
-returns c = cc (open-is (c .before .before .before .before .args .m) (c .before .before .before .before .args .n) (c .before .before .before .before .args .nonzeros) (c .before .before .before .before .args .list .now) (c .before .before .before .before .args .cap))
+returns c = verdict-told _ (cc (open-is (c .before .before .before .before .args .m) (c .before .before .before .before .args .n) (c .before .before .before .before .args .nonzeros) (c .before .before .before .before .args .list .now) (c .before .before .before .before .args .cap)))
 
 pub open-verdict-spec : {M : Type 1} → statement M
 open-verdict-spec =

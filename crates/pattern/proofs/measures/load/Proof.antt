@@ -3,9 +3,9 @@
 use mathlib.Core.Path.{_≡_, sym, _∙_}
 use native.Mathlib.Omega.{arith}
 use Rattle.model.specs.declared.Verdict.the-variants.{Accepted}
-use Rattle.pattern.specs.Measures.{measureVerdict}
+use Rattle.pattern.specs.Measures.{measureVerdict, loadCall}
 use Rattle.pattern.proofs.Verdicts.{accepted-tag, nonzeros-small}
-use Rattle.pattern.proofs.Answers.{measure-sizes, load-value, load-refused}
+use Rattle.pattern.proofs.Answers.{measured-told, measure-sizes, load-value, load-refused}
 use borrow.Author.Needs.{needs}
 use Rattle.pattern.proofs.measures.load.Statement.{statement}
 use Rattle.pattern.proofs.measures.load.Tie as tie
@@ -33,10 +33,12 @@ enum-known-verdict : tie.Need-enum-known-verdict
 enum-known-verdict c = search needs
 
 returns : tie.Need-returns
-returns c = load-value _ _ _ _ _ _ _ (accepted (c .before .before)) (c .load-of .ensures)
+unfolding loadCall
+returns c = measured-told _ _ (load-value _ _ _ _ _ _ _ (accepted (c .before .before)) (c .load-of .ensures))
 
 returns-2 : tie.Need-returns-2
-returns-2 c = load-refused _ _ _ _ _ _ _ _ (sym (c .before .before .before .measure-verdict .ensures) ∙ c .before .verdict .given .1)
+unfolding loadCall
+returns-2 c = measured-told _ _ (load-refused _ _ _ _ _ _ _ _ (sym (c .before .before .before .measure-verdict .ensures) ∙ c .before .verdict .given .1))
 
 pub load-spec : {M : Type 1} → statement M
 load-spec =

@@ -20,10 +20,10 @@ enum-known-listed : tie.Need-enum-known-listed
 enum-known-listed c = search needs
 
 returns : tie.Need-returns
-returns c = c .parts-verdict .ensures ∙ sym (measure-parts _ _ _ _ _ (sym (c .before .before .before .list-verdict .ensures) ∙ accepted-tag _ (c .before .before .match .keys1)))
+returns c = c .parts-verdict .ensures ∙ sym (measure-parts _ _ _ _ _ (sym (c .before .before .before .list-verdict .ensures .0) ∙ accepted-tag _ (c .before .before .match .keys1)))
 
 returns-2 : tie.Need-returns-2
-returns-2 c = sym (measure-list _ _ _ _ _ _ _ (sym (c .before .before .before .list-verdict .ensures) ∙ c .before .listed .given .1))
+returns-2 c = sym (measure-list _ _ _ _ _ _ _ (sym (c .before .before .before .list-verdict .ensures .0) ∙ c .before .listed .given .1))
 
 pub measure-verdict-spec : {M : Type 1} → statement M
 measure-verdict-spec =

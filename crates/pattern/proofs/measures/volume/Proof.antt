@@ -3,9 +3,9 @@
 use mathlib.Core.Path.{_≡_, sym, _∙_}
 use native.Mathlib.Omega.{arith}
 use Rattle.model.specs.declared.Verdict.the-variants.{Accepted}
-use Rattle.pattern.specs.Measures.{measureVerdict}
+use Rattle.pattern.specs.Measures.{measureVerdict, volumeCall}
 use Rattle.pattern.proofs.Verdicts.{accepted-tag, rows-small, columns-small, nonzeros-small}
-use Rattle.pattern.proofs.Answers.{measure-sizes, volume-value, volume-refused}
+use Rattle.pattern.proofs.Answers.{measured-told, measure-sizes, volume-value, volume-refused}
 use borrow.Author.Needs.{needs}
 use Rattle.pattern.proofs.measures.volume.Statement.{statement}
 use Rattle.pattern.proofs.measures.volume.Tie as tie
@@ -39,10 +39,12 @@ enum-known-verdict : tie.Need-enum-known-verdict
 enum-known-verdict c = search needs
 
 returns : tie.Need-returns
-returns c = volume-value _ _ _ _ _ _ (accepted (c .before .before)) (c .volume-of .ensures)
+unfolding volumeCall
+returns c = measured-told _ _ (volume-value _ _ _ _ _ _ (accepted (c .before .before)) (c .volume-of .ensures))
 
 returns-2 : tie.Need-returns-2
-returns-2 c = volume-refused _ _ _ _ _ _ _ (sym (c .before .before .before .measure-verdict .ensures) ∙ c .before .verdict .given .1)
+unfolding volumeCall
+returns-2 c = measured-told _ _ (volume-refused _ _ _ _ _ _ _ (sym (c .before .before .before .measure-verdict .ensures) ∙ c .before .verdict .given .1))
 
 pub volume-spec : {M : Type 1} → statement M
 volume-spec =

@@ -16,7 +16,7 @@ enum-told : tie.Need-enum-told
 enum-told c = search needs
 
 show-listed-requires : tie.Need-show-listed-requires
-show-listed-requires c κs = sym (c .before .before .before .list-verdict .ensures) ∙ accepted-tag _ (c .before .before .match .keys1)
+show-listed-requires c κs = sym (c .before .before .before .list-verdict .ensures .0) ∙ accepted-tag _ (c .before .before .match .keys1)
 
 enum-known-listed : tie.Need-enum-known-listed
 enum-known-listed c = search needs
@@ -30,7 +30,7 @@ returns c = search needs
 returns-2 : tie.Need-returns-2
 returns-2 c =
     let a = c .before .before .before .before .before .before .args in
-    let unlisted = then-unlisted (a .search) (a .m) (a .n) (a .nonzeros) (a .list .now) (roomBy (a .parts .now) (a .nonzeros)) _ _ (sym (c .before .before .before .list-verdict .ensures) ∙ c .before .listed .given .1) in
+    let unlisted = then-unlisted (a .search) (a .m) (a .n) (a .nonzeros) (a .list .now) (roomBy (a .parts .now) (a .nonzeros)) _ _ (sym (c .before .before .before .list-verdict .ensures .0) ∙ c .before .listed .given .1) in
     (show-refused (a .m) (a .n) (a .nonzeros) (a .list .now) (a .parts .now) (a .search) _ _ unlisted, parts-kept (a .m) (a .n) (a .nonzeros) (a .list .now) (a .parts .now) (a .search) _ _ unlisted)
 
 pub show-search-spec : {M : Type 1} → statement M

@@ -3,7 +3,7 @@
 use mathlib.Core.Path.{_≡_, refl, sym, _∙_, ap}
 use native.Mathlib.Omega.{arith}
 use Rattle.pattern.proofs.Verdicts.{accepted-tag}
-use Rattle.writing.proofs.Answers.{write-nonzeros, write-answer-is, write-out-is, write-refused, write-out-kept}
+use Rattle.writing.proofs.Answers.{write-nonzeros, write-answer-is, write-out-is, write-refused, write-out-kept, write-told}
 use borrow.Author.Needs.{needs}
 use Rattle.writing.proofs.write.write.Statement.{statement}
 use Rattle.writing.proofs.write.write.Tie as tie
@@ -30,10 +30,10 @@ same-length : tie.Need-same-length
 same-length c = search needs
 
 returns : tie.Need-returns
-returns c = (write-answer-is _ _ _ _ _ _ _ _ (c .before .before .before .before .before .before .before .before .write-verdict .ensures) _ (accepted-tag _ (c .before .before .before .before .before .before .before .match .keys1)) (c .before .before .before .write-text .ensures .0), write-out-is _ _ _ _ _ _ _ _ (c .before .before .before .before .before .before .before .before .write-verdict .ensures) _ (accepted-tag _ (c .before .before .before .before .before .before .before .match .keys1)) (c .before .before .before .write-text .ensures .1))
+returns c = let v = c .before .before .before .before .before .before .before .before .write-verdict .ensures in let a = accepted-tag _ (c .before .before .before .before .before .before .before .match .keys1) in let r = c .before .before .before .write-text .ensures in let q = write-answer-is _ _ _ _ _ _ _ _ v _ a (r .0) in (q, (write-out-is _ _ _ _ _ _ _ _ v _ a (r .1), write-told _ _ _ _ _ _ _ q))
 
 returns-2 : tie.Need-returns-2
-returns-2 c = (write-refused _ _ _ _ _ _ _ _ (c .before .before .before .write-verdict .ensures) _ _ (c .before .verdict .given .1), write-out-kept _ _ _ _ _ _ _ _ (c .before .before .before .write-verdict .ensures) _ _ (c .before .verdict .given .1))
+returns-2 c = let v = c .before .before .before .write-verdict .ensures in let a = c .before .verdict .given .1 in let q = write-refused _ _ _ _ _ _ _ _ v _ _ a in (q, (write-out-kept _ _ _ _ _ _ _ _ v _ _ a, write-told _ _ _ _ _ _ _ q))
 
 pub write-spec : {M : Type 1} → statement M
 write-spec =

@@ -14,7 +14,7 @@ enum-told : tie.Need-enum-told
 enum-told c = search needs
 
 run-listed-requires : tie.Need-run-listed-requires
-run-listed-requires c κs = sym (c .before .before .list-verdict .ensures) ∙ accepted-tag _ (c .before .match .keys1)
+run-listed-requires c κs = sym (c .before .before .list-verdict .ensures .0) ∙ accepted-tag _ (c .before .match .keys1)
 
 enum-known-listed : tie.Need-enum-known-listed
 enum-known-listed c = search needs
@@ -23,7 +23,7 @@ returns : tie.Need-returns
 returns c = search needs
 
 returns-2 : tie.Need-returns-2
-returns-2 c = run-unlisted _ _ _ _ _ _ _ _ (sym (c .before .before .before .list-verdict .ensures) ∙ c .before .listed .given .1)
+returns-2 c = run-unlisted _ _ _ _ _ _ _ _ (sym (c .before .before .before .list-verdict .ensures .0) ∙ c .before .listed .given .1)
 
 pub run-search-spec : {M : Type 1} → statement M
 run-search-spec =

@@ -1,0 +1,25 @@
+-- A run on a search that is lent is a step of a history: its contract is all that demand 3 asks of a run.
+-- Assumes nothing.
+use mathlib.Core.List.{List}
+use mathlib.Core.Path.{_≡_, refl, sym, _∙_, ap}
+use Prim.Native.Nat.{ℕ, _+_}
+use Rattle.model.specs.declared.Search.{Search}
+use Rattle.model.specs.declared.RunAnswer.{RunAnswer}
+use Rattle.model.specs.declared.Ran.{Ran}
+use Rattle.search.specs.History.{acceptedBudget, Handed, runOf, History, ran}
+
+-- an answer and a search that meet the contract of `lent::run`, and of `lent::try_once` with budget 1
+pub run-steps :
+    {m n nonzeros : ℕ} {list : List ℕ} {cap : ℕ} {before : Search} {total : ℕ} → History m n nonzeros list cap before total →
+    (handed : Handed m n nonzeros list) (budget : ℕ) (answer : RunAnswer) (after : Search) →
+    answer ≡ runOf before handed budget .answer →
+    after ≡ runOf before handed budget .search →
+    History m n nonzeros list cap after (total + acceptedBudget answer budget)
+run-steps {m} {n} {nonzeros} {list} {cap} {before} {total} h handed budget answer after answers leaves =
+    ran h handed budget (record { answer = answer; search = after }) both
+  where
+    both :
+        _≡_ {A = Ran}
+        (record { answer = answer; search = after })
+        (runOf before handed budget)
+    both = rw (answers, leaves)

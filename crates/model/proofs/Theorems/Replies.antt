@@ -1,0 +1,124 @@
+-- What each call replies in numbers: number, place and values, by its verdict. Beside each law stands its pair: an answer that equals the
+-- call's definition replies so.
+-- Assumes nothing.
+use mathlib.Core.Bool.{Bool, true, false}
+use mathlib.Core.List.{List, [], _∷_}
+use mathlib.Core.Option.{Option, some, none}
+use mathlib.Core.Path.{_≡_, refl, _∙_, ap}
+use Prim.Native.Nat.{ℕ}
+use Rattle.model.specs.declared.Verdict.{Verdict}
+use Rattle.model.specs.declared.Verdict.the-variants.{Accepted, Refused}
+use Rattle.model.specs.declared.Search.{Search}
+use Rattle.model.specs.declared.CapAnswer.{CapAnswer}
+use Rattle.model.specs.declared.Opened.{Opened}
+use Rattle.model.specs.declared.Ran.{Ran}
+use Rattle.model.specs.Refusal.{Reply, given, replyAfter, verdictReply}
+use Rattle.model.specs.Pattern.{Pattern, patternOf}
+use Rattle.model.specs.Split.{capFromPercent}
+use Rattle.model.specs.Walk.{Record, rulesOf, floor}
+use Rattle.model.specs.State.{recordOf}
+use Rattle.model.specs.Calls.{openVerdict, runVerdict, showVerdict, capVerdict, capAfter, capCall, openCall, completeNumber, ended, ranRecord, ranAfter, runCall, shown, shownAfter, showCall, capReply, runReply, showReply, shownReply}
+
+-- the cap from a percentage: the cap
+cap-by-verdict :
+    (v : Verdict) (nonzeros percent : ℕ) →
+    capReply (capAfter v nonzeros percent) ≡ replyAfter v (given (capFromPercent nonzeros percent ∷ []))
+unfolding capReply capAfter replyAfter
+cap-by-verdict Accepted nonzeros percent = refl
+cap-by-verdict (Refused word place) nonzeros percent = refl
+
+pub cap-replies :
+    (nonzeros percent : ℕ) →
+    capReply (capCall nonzeros percent) ≡ replyAfter (capVerdict nonzeros percent) (given (capFromPercent nonzeros percent ∷ []))
+unfolding capCall
+cap-replies nonzeros percent = cap-by-verdict (capVerdict nonzeros percent) nonzeros percent
+
+pub cap-told :
+    {answer : CapAnswer} (nonzeros percent : ℕ) → answer ≡ capCall nonzeros percent →
+    (answer ≡ capCall nonzeros percent)
+    × (capReply answer ≡ replyAfter (capVerdict nonzeros percent) (given (capFromPercent nonzeros percent ∷ [])))
+cap-told nonzeros percent e = (e, ap capReply e ∙ cap-replies nonzeros percent)
+
+-- a check: no values
+pub verdict-told :
+    {answer : Verdict} (verdict : Verdict) → answer ≡ verdict →
+    (answer ≡ verdict) × (verdictReply answer ≡ replyAfter verdict (given []))
+unfolding verdictReply
+verdict-told verdict e = (e, ap verdictReply e)
+
+-- an opening: no values beside the search
+pub open-replies :
+    (m n nonzeros : ℕ) (list : List ℕ) (cap : ℕ) →
+    verdictReply (openCall m n nonzeros list cap .verdict) ≡ replyAfter (openVerdict m n nonzeros list cap) (given [])
+unfolding openCall verdictReply
+open-replies m n nonzeros list cap = refl
+
+pub open-told :
+    {answer : Opened} (m n nonzeros : ℕ) (list : List ℕ) (cap : ℕ) → answer ≡ openCall m n nonzeros list cap →
+    (answer ≡ openCall m n nonzeros list cap)
+    × (verdictReply (answer .verdict) ≡ replyAfter (openVerdict m n nonzeros list cap) (given []))
+open-told m n nonzeros list cap e =
+    (e, ap (λ (a : Opened). verdictReply (a .verdict)) e ∙ open-replies m n nonzeros list cap)
+
+-- a run: complete 0 or 1
+ended-reply : (done : Bool) → runReply (ended done) ≡ given (completeNumber done ∷ [])
+unfolding runReply ended
+ended-reply true = refl
+ended-reply false = refl
+
+pub run-by-verdict :
+    (v : Verdict) (s : Search) (P : Pattern) (budget : ℕ) →
+    runReply (ranAfter v s P budget .answer)
+    ≡ replyAfter v (given (completeNumber (ranRecord (recordOf s) P budget .complete) ∷ []))
+unfolding ranAfter replyAfter runReply
+run-by-verdict Accepted s P budget = ended-reply (ranRecord (recordOf s) P budget .complete)
+run-by-verdict (Refused word place) s P budget = refl
+
+pub run-replies :
+    (s : Search) (m n nonzeros : ℕ) (list : List ℕ) (budget : ℕ) →
+    runReply (runCall s m n nonzeros list budget .answer)
+    ≡ replyAfter
+    (runVerdict (recordOf s) m n nonzeros list budget)
+    (given (completeNumber (ranRecord (recordOf s) (patternOf m n nonzeros list) budget .complete) ∷ []))
+unfolding runCall
+run-replies s m n nonzeros list budget =
+    run-by-verdict (runVerdict (recordOf s) m n nonzeros list budget) s (patternOf m n nonzeros list) budget
+
+pub run-told :
+    {answer : Ran} (s : Search) (m n nonzeros : ℕ) (list : List ℕ) (budget : ℕ) →
+    answer ≡ runCall s m n nonzeros list budget →
+    (answer ≡ runCall s m n nonzeros list budget)
+    × (runReply (answer .answer)
+    ≡ replyAfter
+    (runVerdict (recordOf s) m n nonzeros list budget)
+    (given (completeNumber (ranRecord (recordOf s) (patternOf m n nonzeros list) budget .complete) ∷ [])))
+run-told s m n nonzeros list budget e =
+    (e, ap (λ (a : Ran). runReply (a .answer)) e ∙ run-replies s m n nonzeros list budget)
+
+-- a showing: volume and floor, or the floor alone
+shown-replies :
+    (P : Pattern) (cap : ℕ) (best : Option (List ℕ)) (low : ℕ) → showReply (shown P cap best low) ≡ shownReply P cap best low
+unfolding showReply shown shownReply
+shown-replies P cap none low = refl
+shown-replies P cap (some best) low = refl
+
+pub show-by-verdict :
+    (v : Verdict) (r : Record) (P : Pattern) →
+    showReply (shownAfter v r P) ≡ replyAfter v (shownReply P (r .cap) (r .best) (floor (rulesOf P (r .cap)) r))
+unfolding shownAfter replyAfter showReply
+show-by-verdict Accepted r P = shown-replies P (r .cap) (r .best) (floor (rulesOf P (r .cap)) r)
+show-by-verdict (Refused word place) r P = refl
+
+pub show-replies :
+    (s : Search) (m n nonzeros : ℕ) (list parts : List ℕ) →
+    showReply (showCall s m n nonzeros list parts)
+    ≡ replyAfter
+    (showVerdict (recordOf s) m n nonzeros list parts)
+    (shownReply
+    (patternOf m n nonzeros list)
+    (s .cap)
+    (recordOf s .best)
+    (floor (rulesOf (patternOf m n nonzeros list) (s .cap)) (recordOf s)))
+unfolding showCall recordOf
+show-replies s m n nonzeros list parts =
+    show-by-verdict (showVerdict (recordOf s) m n nonzeros list parts) (recordOf s) (patternOf m n nonzeros list)

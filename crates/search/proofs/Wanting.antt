@@ -1,0 +1,138 @@
+-- The opening of demand 3: accepted exactly when, within document 01's limits, a split meets the cap, and refused under 12 exactly when,
+-- within them, none does. Refusal 12 is given only within the limits, since no check placed before it has its word.
+-- Assumes nothing.
+use mathlib.Core.Bool.{Bool, true, false, not}
+use mathlib.Core.List.{List}
+use mathlib.Core.Logic.{_↔_}
+use mathlib.Core.Path.{_≡_, refl, sym, _∙_, ap}
+use Prim.Native.Nat.{ℕ, zero, suc, _*_}
+use native.Mathlib.Omega.{arith}
+use lib.Dec.{ltb}
+use borrow.Author.Tests.{ltb-true, ltb-false, le-ltb}
+use Rattle.counting.proofs.Joined.{no-way, clash, passes, never}
+use Rattle.model.specs.declared.Word.{Word}
+use Rattle.model.specs.declared.Word.the-variants.{ShortBuffer, Cap, NoSplit, TooBig, OffMatrix, Order}
+use Rattle.model.specs.declared.Verdict.{Verdict}
+use Rattle.model.specs.declared.Verdict.the-variants.{Accepted, Refused}
+use Rattle.model.specs.Limits.{capLimit}
+use Rattle.model.specs.Refusal.{refuse, _then_}
+use Rattle.model.specs.Pattern.{patternOf}
+use Rattle.model.specs.Calls.{listVerdict, openVerdict, sizesVerdict, entryVerdict, entriesVerdict}
+use Rattle.model.proofs.Theorems.Accepted.{open-accepted}
+use Rattle.model.proofs.Theorems.Least.{split-exists}
+use Rattle.search.specs.Demand.{Within, Splits}
+
+-- a verdict that is not refusal 12
+abbrev Other : Verdict → Type 0
+Other v = (place : ℕ) → v ≡ Refused NoSplit place → ⊥
+
+then-other : (v w : Verdict) → Other v → Other w → Other (v then w)
+unfolding _then_
+then-other Accepted w a b = b
+then-other (Refused word place) w a b = a
+
+refuse-other : (test : Bool) (word : Word) (place : ℕ) → (word ≡ NoSplit → ⊥) → Other (refuse test word place)
+unfolding refuse
+refuse-other true word place h = λ p e. h (cc)
+refuse-other false word place h = λ p e. never (cc)
+
+-- the checks of a list
+entry-other : (m n : ℕ) (list : List ℕ) (t : ℕ) → Other (entryVerdict m n list t)
+unfolding entryVerdict
+entry-other m n list t =
+    then-other _ _ (refuse-other _ OffMatrix t (λ e. never (cc))) (refuse-other _ Order t (λ e. never (cc)))
+
+entries-other : (m n : ℕ) (list : List ℕ) (t : ℕ) → Other (entriesVerdict m n list t)
+unfolding entriesVerdict
+entries-other m n list zero = λ p e. never (cc)
+entries-other m n list (suc t) = then-other _ _ (entries-other m n list t) (entry-other m n list t)
+
+list-other : (m n nonzeros : ℕ) (list : List ℕ) → Other (listVerdict m n nonzeros list)
+unfolding listVerdict sizesVerdict
+list-other m n nonzeros list =
+    then-other
+    _
+    _
+    (then-other _ _ (refuse-other _ TooBig 0 (λ e. never (cc))) (refuse-other _ ShortBuffer 0 (λ e. never (cc))))
+    (entries-other m n list nonzeros)
+
+-- refusal 12 behind a list's checks and that of the cap
+behind :
+    (v : Verdict) (over short : Bool) → Other v → v then refuse over Cap 0 then refuse short NoSplit 0 ≡ Refused NoSplit 0 →
+    (v ≡ Accepted) × (over ≡ false)
+unfolding _then_ refuse
+behind Accepted true short o e = never (cc)
+behind Accepted false short o e = (refl, refl)
+behind (Refused word place) over short o e = absurd (o 0 e)
+
+-- an opening refused under 12 is within the limits
+refused-within :
+    (m n nonzeros : ℕ) (list : List ℕ) (cap : ℕ) → openVerdict m n nonzeros list cap ≡ Refused NoSplit 0 →
+    Within m n nonzeros list cap
+unfolding openVerdict
+refused-within m n nonzeros list cap e =
+    let w = behind (listVerdict m n nonzeros list) (ltb capLimit cap) (ltb (2 * cap) nonzeros) (list-other m n nonzeros list) e in
+    record { listed = w .0; capped = ltb-false capLimit cap (w .1) }
+
+-- checks that refuse nothing leave the last
+within-cap : (over : Bool) (v : Verdict) → over ≡ false → Accepted then refuse over Cap 0 then v ≡ v
+unfolding _then_ refuse
+within-cap true v h = clash refl h
+within-cap false v h = refl
+
+-- within the limits only 12 can refuse the opening
+within-verdict :
+    (m n nonzeros : ℕ) (list : List ℕ) (cap : ℕ) → Within m n nonzeros list cap →
+    openVerdict m n nonzeros list cap ≡ refuse (ltb (2 * cap) nonzeros) NoSplit 0
+unfolding openVerdict
+within-verdict m n nonzeros list cap w =
+    ap (λ (v : Verdict). v then refuse (ltb capLimit cap) Cap 0 then refuse (ltb (2 * cap) nonzeros) NoSplit 0) (w .listed)
+    ∙ within-cap (ltb capLimit cap) (refuse (ltb (2 * cap) nonzeros) NoSplit 0) (le-ltb capLimit cap (w .capped))
+
+-- the refusal for want of a split
+refused-exactly : (over : Bool) → (refuse over NoSplit 0 ≡ Refused NoSplit 0) ↔ (over ≡ true)
+unfolding refuse
+refused-exactly true = ((λ e. refl), (λ e. refl))
+refused-exactly false = ((λ e. never (cc)), (λ e. clash e refl))
+
+accepted-exactly : (over : Bool) → (refuse over NoSplit 0 ≡ Accepted) ↔ (over ≡ false)
+unfolding refuse
+accepted-exactly true = ((λ e. never (cc)), (λ e. clash refl e))
+accepted-exactly false = ((λ e. refl), (λ e. refl))
+
+-- an opening is accepted exactly when, within the limits, a split meets the cap
+pub accepts-exactly :
+    (m n nonzeros : ℕ) (list : List ℕ) (cap : ℕ) →
+    (openVerdict m n nonzeros list cap ≡ Accepted) ↔ (Within m n nonzeros list cap × Splits (patternOf m n nonzeros list) cap)
+unfolding patternOf
+accepts-exactly m n nonzeros list cap = (
+  (λ a.
+      let fine = open-accepted m n nonzeros list cap a in
+      (record { listed = fine .listed; capped = fine .cap-to }, split-exists (patternOf m n nonzeros list) cap .1 (fine .enough))),
+  (λ w.
+      within-verdict m n nonzeros list cap (w .0)
+      ∙ accepted-exactly (ltb (2 * cap) nonzeros) .1 (le-ltb (2 * cap) nonzeros (split-exists (patternOf m n nonzeros list) cap .0 (w .1)))),
+)
+
+-- and refused under 12 exactly when, within them, none does
+pub refuses-exactly :
+    (m n nonzeros : ℕ) (list : List ℕ) (cap : ℕ) →
+    (openVerdict m n nonzeros list cap ≡ Refused NoSplit 0)
+    ↔ (Within m n nonzeros list cap × (Splits (patternOf m n nonzeros list) cap → ⊥))
+unfolding patternOf
+refuses-exactly m n nonzeros list cap = (
+  (λ a.
+      let w = refused-within m n nonzeros list cap a in
+      let e = within-verdict m n nonzeros list cap w in (
+        w,
+        (λ σ.
+            let over = ltb-true (2 * cap) nonzeros (refused-exactly (ltb (2 * cap) nonzeros) .0 (sym e ∙ a)) in
+            let few = split-exists (patternOf m n nonzeros list) cap .0 σ in
+            no-way (omega arith)),
+      )),
+  (λ w.
+      within-verdict m n nonzeros list cap (w .0)
+      ∙ refused-exactly (ltb (2 * cap) nonzeros) .1 (passes
+      (ltb (2 * cap) nonzeros)
+      (λ under. w .1 (split-exists (patternOf m n nonzeros list) cap .1 (ltb-false (2 * cap) nonzeros under))))),
+)
