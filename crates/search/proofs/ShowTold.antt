@@ -70,6 +70,9 @@ module _
         none-yet = λ low. ((λ a. never (cc)), (λ w. never (cc)));
         none-stays = λ low a. never (cc);
         none-floor = λ low a σ meets. never (cc);
+        found = λ other v e.
+            let same : best ≡ other = cc in
+            is ∙ ap (λ (τ : List ℕ). show-answer.Split (volume P (shownFrom P cap τ)) lowest) same;
         split = λ shown low a.
             let volume-same : volume P (shownFrom P cap best) ≡ shown = cc in
             let floor-same : lowest ≡ low = cc in
@@ -99,6 +102,7 @@ module _
         none-yet = λ low. ((λ a. (refl, b, cc)), (λ w. is ∙ ap show-answer.NoneYet (w .2)));
         none-stays = λ low a. bytes;
         none-floor = λ low a σ meets. let same : lowest ≡ low = cc in omega (arith, floor-below σ meets);
+        found = λ best v e. never (cc);
         split = λ shown low a. never (cc);
         reply = reply;
       }
@@ -116,6 +120,7 @@ module _
         none-yet = λ low. ((λ a. never (cc)), (λ w. never (cc)));
         none-stays = λ low a. bytes;
         none-floor = λ low a σ meets. never (cc);
+        found = λ best v e. never (cc);
         split = λ shown low a. never (cc);
         reply = reply;
       }

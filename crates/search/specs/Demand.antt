@@ -114,7 +114,10 @@ pub record ShowAnswered (P : Pattern) (cap : ℕ) (r : Record) (verdict : Verdic
       (answer ≡ show-answer.NoneYet low) ↔ ((verdict ≡ Accepted) × (r .best ≡ none) × (floor (rulesOf P cap) r ≡ low))
   pub none-stays : (low : ℕ) → answer ≡ show-answer.NoneYet low → after ≡ parts
   pub none-floor : (low : ℕ) → answer ≡ show-answer.NoneYet low → (σ : Split) → Meets P cap σ → low ≤ volume P σ
-  -- or a split
+  -- or a split, with the volume and the floor that the walk shows
+  pub found :
+      (best : List ℕ) → verdict ≡ Accepted → r .best ≡ some best →
+      answer ≡ show-answer.Split (volume P (shownFrom P cap best)) (floor (rulesOf P cap) r)
   pub split : (shown low : ℕ) → answer ≡ show-answer.Split shown low → SplitAnswered P cap r parts shown low after
   -- the same in numbers
   pub reply : showReply answer ≡ replyAfter verdict (shownReply P cap (r .best) (floor (rulesOf P cap) r))

@@ -1,15 +1,17 @@
 -- Markings that agree on the lines of patterns that are alike: they take the same nonzeros, both are valid or neither is, and each line is in the same condition.
 -- Assumes nothing.
-use mathlib.Core.Bool.{not}
+use mathlib.Core.Bool.{Bool, not}
 use mathlib.Core.List.{List}
 use mathlib.Core.Path.{_≡_, _∙_, ap}
 use Prim.Native.Nat.{ℕ, _<_}
 use lib.Dec.{eqb, leb}
 use Rattle.counting.specs.Tests.{_and_}
+use Rattle.counting.specs.Sums.{count}
 use Rattle.counting.proofs.Joined.{and-eq, or-eq}
 use Rattle.model.specs.declared.Part.{Part}
 use Rattle.model.specs.declared.Part.the-variants.{Zero, One}
 use Rattle.model.specs.declared.Mark.the-variants.{To}
+use Rattle.model.specs.declared.Condition.{Condition}
 use Rattle.model.specs.Pattern.{Pattern, Inside, lines, rowLine, columnLine, on}
 use Rattle.model.specs.Marking.{Marking, markNumber, marking, takes, taken, valid, touched, condition}
 use Rattle.model.specs.Bound.{saysCut, saysTorn, saysLeaning, leans, L1, L2, untaken}
@@ -116,20 +118,20 @@ module _ {P Q : Pattern} {μ ν : Marking} (k : AlikeMarks P Q μ ν) where
       ap (saysLeaning p) (condition-at (columnLine P t) (k .on-columns t b))
       ∙ ap (λ (l : ℕ). saysLeaning p (condition Q ν l)) (column-line-same (k .patterns) t b)
 
+  -- as many lines whose condition passes a test
+  lines-so :
+      (says : Condition → Bool) → count (λ l. says (condition P μ l)) (lines P) ≡ count (λ l. says (condition Q ν l)) (lines Q)
+  lines-so says =
+      counts-agree
+      (λ l. says (condition P μ l))
+      (λ l. says (condition Q ν l))
+      (lines-same (k .patterns))
+      (λ l b. ap says (condition-same l b))
+
   pub L1-same : L1 P μ ≡ L1 Q ν
   unfolding L1
-  L1-same =
-      counts-agree
-      (λ l. saysCut (condition P μ l))
-      (λ l. saysCut (condition Q ν l))
-      (lines-same (k .patterns))
-      (λ l b. ap saysCut (condition-same l b))
+  L1-same = lines-so saysCut
 
   pub L2-same : L2 P μ ≡ L2 Q ν
   unfolding L2
-  L2-same =
-      counts-agree
-      (λ l. saysTorn (condition P μ l))
-      (λ l. saysTorn (condition Q ν l))
-      (lines-same (k .patterns))
-      (λ l b. ap saysTorn (condition-same l b))
+  L2-same = lines-so saysTorn
