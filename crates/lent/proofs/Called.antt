@@ -27,10 +27,7 @@ use denote.Struct.Laws as LL
 use denote.Triple.Statement.{Contract}
 use denote.Triple.Spec.{tripleOf}
 use denote.Triple.Clauses.{ensured, lasts}
-use Rattle.model.specs.Refusal.{given, replyAfter}
-use Rattle.model.specs.Pattern.{patternOf}
-use Rattle.model.specs.State.{recordOf}
-use Rattle.model.specs.Calls.{runVerdict, completeNumber, ranRecord, runCall, runReply}
+use Rattle.model.specs.Calls.{runCall, runReply, runReplies}
 use Rattle.model.specs.declared.Search.{Search}
 use Rattle.model.specs.declared.Ran.{Ran}
 use Rattle.model.proofs.Search as T
@@ -64,13 +61,7 @@ module _ {M : Type 1} (𝓤 : URA M) (H : Heap 𝓤) (A : Atoms 𝓤) (at-mem : 
   answers d m n nz y c r = fact 𝓤 (r ≡ runCall d m n nz (now y) c)
 
   abbrev replies : Search → ℕ → ℕ → ℕ → RefT (List ℕ) → ℕ → Ran → SProp 𝓤
-  replies d m n nz y c r =
-      fact
-      𝓤
-      (runReply (r .answer)
-      ≡ replyAfter
-      (runVerdict (recordOf d) m n nz (now y) c)
-      (given (completeNumber (ranRecord (recordOf d) (patternOf m n nz (now y)) c .complete) ∷ [])))
+  replies d m n nz y c r = fact 𝓤 (runReply (r .answer) ≡ runReplies d m n nz (now y) c)
 
   -- of the callee's `ensured`, the first clause alone
   pub said : (κ : Lft) (d : Search) (m n nz : ℕ) (y : RefT (List ℕ)) (c : ℕ) (r : Ran) → ent 𝓤 (ensured 𝓤 H A callee.ended (callee.clauses 𝓤 H A at-mem run) (κ, tt) (d, (m, (n, (nz, (y, (c, tt)))))) tt r) (fact 𝓤 (r ≡ runCall d m n nz (now y) c))

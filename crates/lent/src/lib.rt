@@ -1,12 +1,8 @@
 // A search that is lent by `&mut`: a run, and a run of one try.
 use model::RunAnswer;
 use model::Search;
-ghost use mathlib.Core.List.{[], _∷_};
 ghost use mathlib.Core.Path.{_≡_};
-ghost use Rattle.model.specs.Refusal.{given, replyAfter};
-ghost use Rattle.model.specs.Pattern.{patternOf};
-ghost use Rattle.model.specs.State.{recordOf};
-ghost use Rattle.model.specs.Calls.{runVerdict, completeNumber, ranRecord, runCall, runReply};
+ghost use Rattle.model.specs.Calls.{runCall, runReply, runReplies};
 
 // Makes a budget of tries on a search that is lent, or fewer only because it became complete.
 pub fn run(
@@ -19,8 +15,7 @@ pub fn run(
 ) -> RunAnswer
     ensures { λ a. ⌜ (a ≡ (runCall (now (search .entry)) m n nonzeros (now (list .entry)) budget) .answer)
         × (now (search .exit) ≡ (runCall (now (search .entry)) m n nonzeros (now (list .entry)) budget) .search)
-        × (runReply a ≡ replyAfter (runVerdict (recordOf (now (search .entry))) m n nonzeros (now (list .entry)) budget)
-        (given (completeNumber (ranRecord (recordOf (now (search .entry))) (patternOf m n nonzeros (now (list .entry))) budget .complete) ∷ []))) ⌝ }
+        × (runReply a ≡ runReplies (now (search .entry)) m n nonzeros (now (list .entry)) budget) ⌝ }
 {
     let ran = search::run(*search, m, n, nonzeros, list, budget);
     *search = ran.search;
@@ -31,8 +26,7 @@ pub fn run(
 pub fn try_once(search: &mut Search, m: u64, n: u64, nonzeros: u64, list: &[u8]) -> RunAnswer
     ensures { λ a. ⌜ (a ≡ (runCall (now (search .entry)) m n nonzeros (now (list .entry)) 1) .answer)
         × (now (search .exit) ≡ (runCall (now (search .entry)) m n nonzeros (now (list .entry)) 1) .search)
-        × (runReply a ≡ replyAfter (runVerdict (recordOf (now (search .entry))) m n nonzeros (now (list .entry)) 1)
-        (given (completeNumber (ranRecord (recordOf (now (search .entry))) (patternOf m n nonzeros (now (list .entry))) 1 .complete) ∷ []))) ⌝ }
+        × (runReply a ≡ runReplies (now (search .entry)) m n nonzeros (now (list .entry)) 1) ⌝ }
 {
     let ran = search::run(*search, m, n, nonzeros, list, 1);
     *search = ran.search;

@@ -20,7 +20,7 @@ use Rattle.model.specs.declared.Ran.{Ran}
 use Rattle.model.specs.declared.ShowAnswer.{ShowAnswer}
 use Rattle.model.specs.declared.ShowAnswer.the-variants as show-answer
 use Rattle.model.specs.Limits.{lineLimit, nonzeroLimit, capLimit, percentLimit, budgetLimit, triesLimit}
-use Rattle.model.specs.Refusal.{Reply, given, noneYet, refusal, replyCode, refuse, _then_}
+use Rattle.model.specs.Refusal.{Reply, given, noneYet, refusal, replyAfter, verdictReply, replyCode, refuse, _then_}
 use Rattle.model.specs.Pattern.{Pattern, entryBytes, rowIn, columnIn, patternOf}
 use Rattle.model.specs.Split.{Split, partNumber, volume, capFromPercent}
 use Rattle.model.specs.Marking.{marking}
@@ -225,6 +225,34 @@ showReply (show-answer.Refused word place) = refusal word place
 unfoldable pub shownReply : Pattern → ℕ → Option (List ℕ) → ℕ → Reply
 shownReply P cap none floor = noneYet (floor ∷ [])
 shownReply P cap (some best) floor = given (volume P (shownFrom P cap best) ∷ floor ∷ [])
+
+-- what each call replies in numbers: the checks of a list, and an opening
+unfoldable pub listReplies : ℕ → ℕ → ℕ → List ℕ → Reply
+listReplies m n nonzeros list = verdictReply (listVerdict m n nonzeros list)
+
+unfoldable pub openReplies : ℕ → ℕ → ℕ → List ℕ → ℕ → Reply
+openReplies m n nonzeros list cap = verdictReply (openVerdict m n nonzeros list cap)
+
+-- the cap from e
+unfoldable pub capReplies : ℕ → ℕ → Reply
+capReplies nonzeros percent =
+    replyAfter (capVerdict nonzeros percent) (given (capFromPercent nonzeros percent ∷ []))
+
+-- a run
+unfoldable pub runReplies : Search → ℕ → ℕ → ℕ → List ℕ → ℕ → Reply
+runReplies s m n nonzeros list budget =
+    replyAfter
+    (runVerdict (recordOf s) m n nonzeros list budget)
+    (given (completeNumber (ranRecord (recordOf s) (patternOf m n nonzeros list) budget .complete) ∷ []))
+
+-- a showing
+unfoldable pub showReplies : Search → ℕ → ℕ → ℕ → List ℕ → List ℕ → Reply
+showReplies s m n nonzeros list parts =
+    let P = patternOf m n nonzeros list in
+    let r = recordOf s in
+    replyAfter
+    (showVerdict r m n nonzeros list parts)
+    (shownReply P (r .cap) (r .best) (floor (rulesOf P (r .cap)) r))
 
 -- a showing's answer as one number: 0, or 255 for "none yet", or a refusal as number + 256 × place
 unfoldable pub showCode : ShowAnswer → ℕ

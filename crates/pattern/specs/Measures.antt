@@ -8,7 +8,7 @@ use Rattle.model.specs.declared.Part.{Part}
 use Rattle.model.specs.declared.Word.the-variants.{BadPart, ShortBuffer}
 use Rattle.model.specs.declared.Verdict.{Verdict}
 use Rattle.model.specs.declared.Verdict.the-variants.{Accepted, Refused}
-use Rattle.model.specs.Refusal.{Reply, given, refusal, refuse, _then_}
+use Rattle.model.specs.Refusal.{Reply, given, refusal, replyAfter, refuse, _then_}
 use Rattle.model.specs.Pattern.{patternOf}
 use Rattle.model.specs.Split.{volume, load}
 use Rattle.model.specs.Calls.{listVerdict}
@@ -54,3 +54,17 @@ loadCall m n nonzeros list parts p =
 unfoldable pub measuredReply : Measured → Reply
 measuredReply (measured.Value value) = given (value ∷ [])
 measuredReply (measured.Refused word place) = refusal word place
+
+-- what is replied for the volume
+unfoldable pub volumeReplies : ℕ → ℕ → ℕ → List ℕ → List ℕ → Reply
+volumeReplies m n nonzeros list parts =
+    replyAfter
+    (measureVerdict m n nonzeros list parts)
+    (given (volume (patternOf m n nonzeros list) (splitOf parts) ∷ []))
+
+-- what is replied for the load of a part
+unfoldable pub loadReplies : ℕ → ℕ → ℕ → List ℕ → List ℕ → Part → Reply
+loadReplies m n nonzeros list parts p =
+    replyAfter
+    (measureVerdict m n nonzeros list parts)
+    (given (load (patternOf m n nonzeros list) (splitOf parts) p ∷ []))

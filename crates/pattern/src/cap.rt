@@ -1,16 +1,13 @@
 // The cap from a percentage.
 use model::CapAnswer;
 use model::Word;
-ghost use mathlib.Core.List.{[], _∷_};
 ghost use mathlib.Core.Path.{_≡_};
-ghost use Rattle.model.specs.Refusal.{given, replyAfter};
-ghost use Rattle.model.specs.Split.{capFromPercent};
-ghost use Rattle.model.specs.Calls.{capVerdict, capCall, capReply};
+ghost use Rattle.model.specs.Calls.{capCall, capReply, capReplies};
 
 // The cap from e: 4 for N, then 11, then the whole part of (100 + e) × N / 200.
 pub fn cap_from_percent(nonzeros: u64, percent: u64) -> CapAnswer
     ensures answer { λ r. ⌜ r ≡ capCall nonzeros percent ⌝ }
-    ensures reply { λ r. ⌜ capReply r ≡ replyAfter (capVerdict nonzeros percent) (given (capFromPercent nonzeros percent ∷ [])) ⌝ }
+    ensures reply { λ r. ⌜ capReply r ≡ capReplies nonzeros percent ⌝ }
 {
     if 2000 < nonzeros {
         return CapAnswer::Refused(Word::TooBig, 0);

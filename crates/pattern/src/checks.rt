@@ -5,11 +5,10 @@ use crate::reading::long16;
 use crate::reading::row_of;
 use model::Verdict;
 use model::Word;
-ghost use mathlib.Core.List.{[]};
 ghost use mathlib.Core.Path.{_≡_};
 ghost use Rattle.model.specs.Limits.{lineLimit};
-ghost use Rattle.model.specs.Refusal.{_then_, given, replyAfter, verdictReply};
-ghost use Rattle.model.specs.Calls.{outside, rises, sizesVerdict, entryVerdict, entriesVerdict, listVerdict, openVerdict};
+ghost use Rattle.model.specs.Refusal.{_then_, verdictReply};
+ghost use Rattle.model.specs.Calls.{outside, rises, sizesVerdict, entryVerdict, entriesVerdict, listVerdict, openVerdict, listReplies, openReplies};
 ghost use Rattle.pattern.specs.Checks.{offMatrix, capsVerdict};
 
 // A number of rows or columns outside its range.
@@ -113,7 +112,7 @@ pub fn entries_verdict(m: u64, n: u64, list: &[u8], nonzeros: u16) -> Verdict
 // The checks of a list: 4, 9, then per nonzero 5, 10.
 pub fn list_verdict(m: u64, n: u64, nonzeros: u64, list: &[u8]) -> Verdict
     ensures verdict { λ r. ⌜ r ≡ listVerdict m n nonzeros (now (list .entry)) ⌝ }
-    ensures reply { λ r. ⌜ verdictReply r ≡ replyAfter (listVerdict m n nonzeros (now (list .entry))) (given []) ⌝ }
+    ensures reply { λ r. ⌜ verdictReply r ≡ listReplies m n nonzeros (now (list .entry)) ⌝ }
 {
     let sizes = sizes_verdict(m, n, nonzeros);
     match sizes {
@@ -143,7 +142,7 @@ pub fn caps_verdict(nonzeros: u64, cap: u64) -> Verdict
 // Opening: the list's checks; then 11, 12.
 pub fn open_verdict(m: u64, n: u64, nonzeros: u64, list: &[u8], cap: u64) -> Verdict
     ensures verdict { λ r. ⌜ r ≡ openVerdict m n nonzeros (now (list .entry)) cap ⌝ }
-    ensures reply { λ r. ⌜ verdictReply r ≡ replyAfter (openVerdict m n nonzeros (now (list .entry)) cap) (given []) ⌝ }
+    ensures reply { λ r. ⌜ verdictReply r ≡ openReplies m n nonzeros (now (list .entry)) cap ⌝ }
 {
     let listed = list_verdict(m, n, nonzeros, list);
     let caps = caps_verdict(nonzeros, cap);

@@ -7,14 +7,9 @@ use crate::splits::volume_of;
 use model::Part;
 use model::Verdict;
 use model::Word;
-ghost use mathlib.Core.List.{[], _∷_};
 ghost use mathlib.Core.Path.{_≡_};
-ghost use Rattle.model.specs.Refusal.{given, replyAfter};
-ghost use Rattle.model.specs.Pattern.{patternOf};
-ghost use Rattle.model.specs.Split as Split;
 ghost use Rattle.pattern.specs.Checks.{eachVerdict};
-ghost use Rattle.pattern.specs.Measures.{partVerdict, partsVerdict, measureVerdict, volumeCall, loadCall, measuredReply};
-ghost use Rattle.pattern.specs.Splits.{splitOf};
+ghost use Rattle.pattern.specs.Measures.{partVerdict, partsVerdict, measureVerdict, volumeCall, loadCall, measuredReply, volumeReplies, loadReplies};
 
 // 8: the part byte of nonzero t is above 1.
 pub fn part_verdict(parts: &[u8], t: usize) -> Verdict
@@ -71,8 +66,7 @@ pub fn measure_verdict(m: u64, n: u64, nonzeros: u64, list: &[u8], parts: &[u8])
 // The volume of a split.
 pub fn volume(m: u64, n: u64, nonzeros: u64, list: &[u8], parts: &[u8]) -> Measured
     ensures answer { λ r. ⌜ r ≡ volumeCall m n nonzeros (now (list .entry)) (now (parts .entry)) ⌝ }
-    ensures reply { λ r. ⌜ measuredReply r ≡ replyAfter (measureVerdict m n nonzeros (now (list .entry)) (now (parts .entry)))
-        (given (Split.volume (patternOf m n nonzeros (now (list .entry))) (splitOf (now (parts .entry))) ∷ [])) ⌝ }
+    ensures reply { λ r. ⌜ measuredReply r ≡ volumeReplies m n nonzeros (now (list .entry)) (now (parts .entry)) ⌝ }
 {
     let verdict = measure_verdict(m, n, nonzeros, list, parts);
     match verdict {
@@ -87,8 +81,7 @@ pub fn volume(m: u64, n: u64, nonzeros: u64, list: &[u8], parts: &[u8]) -> Measu
 // The load of a part of a split.
 pub fn load(m: u64, n: u64, nonzeros: u64, list: &[u8], parts: &[u8], part: Part) -> Measured
     ensures answer { λ r. ⌜ r ≡ loadCall m n nonzeros (now (list .entry)) (now (parts .entry)) part ⌝ }
-    ensures reply { λ r. ⌜ measuredReply r ≡ replyAfter (measureVerdict m n nonzeros (now (list .entry)) (now (parts .entry)))
-        (given (Split.load (patternOf m n nonzeros (now (list .entry))) (splitOf (now (parts .entry))) part ∷ [])) ⌝ }
+    ensures reply { λ r. ⌜ measuredReply r ≡ loadReplies m n nonzeros (now (list .entry)) (now (parts .entry)) part ⌝ }
 {
     let verdict = measure_verdict(m, n, nonzeros, list, parts);
     match verdict {

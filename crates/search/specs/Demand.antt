@@ -22,7 +22,7 @@ use Rattle.model.specs.Pattern.{Pattern, patternOf, lineTotal}
 use Rattle.model.specs.Split.{Split, Meets, volume}
 use Rattle.model.specs.Walk.{Record, rulesOf, walked, floor}
 use Rattle.model.specs.State.{recordOf, searchOf, stateFine}
-use Rattle.model.specs.Calls.{listVerdict, openVerdict, openCall, completeNumber, ranAfter, shownFrom, shownAfter, partsAfter, runReply, showReply, shownReply}
+use Rattle.model.specs.Calls.{listVerdict, openVerdict, openCall, completeNumber, ranAfter, shownFrom, shownAfter, partsAfter, runReply, showReply, shownReply, openReplies}
 use Rattle.pattern.specs.Splits.{splitOf}
 use Rattle.search.specs.History.{acceptedBudget, Handed, runOf, showOf, partsOf, runTable, showTable, History, opened, ran, showed}
 
@@ -159,7 +159,7 @@ Splits P cap = (σ : Split) × Meets P cap σ
 pub record Demand3 (m n nonzeros : ℕ) (list : List ℕ) (cap : ℕ) : Type 0 where
   pub throughout : {s : Search} {total : ℕ} (h : History m n nonzeros list cap s total) → Throughout h
   pub opens : openCall m n nonzeros list cap .verdict ≡ openVerdict m n nonzeros list cap
-  pub opens-reply : verdictReply (openCall m n nonzeros list cap .verdict) ≡ replyAfter (openVerdict m n nonzeros list cap) (given [])
+  pub opens-reply : verdictReply (openCall m n nonzeros list cap .verdict) ≡ openReplies m n nonzeros list cap
   pub accepts :
       (openCall m n nonzeros list cap .verdict ≡ Accepted)
       ↔ (Within m n nonzeros list cap × Splits (patternOf m n nonzeros list) cap)

@@ -10,13 +10,9 @@ use pattern::checks::open_verdict;
 use state::holding::fresh_search;
 use state::holding::no_search;
 use state::lines::line_total;
-ghost use mathlib.Core.List.{[], _∷_};
 ghost use mathlib.Core.Path.{_≡_};
-ghost use Rattle.model.specs.Refusal.{given, replyAfter, verdictReply};
-ghost use Rattle.model.specs.Pattern.{patternOf};
-ghost use Rattle.model.specs.Walk.{rulesOf, floor};
-ghost use Rattle.model.specs.State.{recordOf};
-ghost use Rattle.model.specs.Calls.{openVerdict, runVerdict, showVerdict, openCall, completeNumber, ranRecord, runCall, showCall, showParts, runReply, showReply, shownReply};
+ghost use Rattle.model.specs.Refusal.{verdictReply};
+ghost use Rattle.model.specs.Calls.{openCall, runCall, showCall, showParts, runReply, showReply, openReplies, runReplies, showReplies};
 
 pub mod presenting;
 pub mod trying;
@@ -24,7 +20,7 @@ pub mod trying;
 // Opens a search of a pattern under a cap.
 pub fn open(m: u64, n: u64, nonzeros: u64, list: &[u8], cap: u64) -> Opened
     ensures answer { λ r. ⌜ r ≡ openCall m n nonzeros (now (list .entry)) cap ⌝ }
-    ensures reply { λ r. ⌜ verdictReply (r .verdict) ≡ replyAfter (openVerdict m n nonzeros (now (list .entry)) cap) (given []) ⌝ }
+    ensures reply { λ r. ⌜ verdictReply (r .verdict) ≡ openReplies m n nonzeros (now (list .entry)) cap ⌝ }
 {
     let verdict = open_verdict(m, n, nonzeros, list, cap);
     match verdict {
@@ -49,8 +45,7 @@ pub fn open(m: u64, n: u64, nonzeros: u64, list: &[u8], cap: u64) -> Opened
 // Makes a budget of tries, or fewer only because the search became complete.
 pub fn run(search: Search, m: u64, n: u64, nonzeros: u64, list: &[u8], budget: u64) -> Ran
     ensures answer { λ a. ⌜ a ≡ runCall search m n nonzeros (now (list .entry)) budget ⌝ }
-    ensures reply { λ a. ⌜ runReply (a .answer) ≡ replyAfter (runVerdict (recordOf search) m n nonzeros (now (list .entry)) budget)
-        (given (completeNumber (ranRecord (recordOf search) (patternOf m n nonzeros (now (list .entry))) budget .complete) ∷ [])) ⌝ }
+    ensures reply { λ a. ⌜ runReply (a .answer) ≡ runReplies search m n nonzeros (now (list .entry)) budget ⌝ }
 {
     run_search(search, m, n, nonzeros, list, budget)
 }
@@ -66,9 +61,7 @@ pub fn show(
 ) -> ShowAnswer
     ensures answer { λ a. ⌜ a ≡ showCall search m n nonzeros (now (list .entry)) (now (parts .entry)) ⌝ }
     ensures parts { λ a. ⌜ now (parts .exit) ≡ showParts search m n nonzeros (now (list .entry)) (now (parts .entry)) ⌝ }
-    ensures reply { λ a. ⌜ showReply a ≡ replyAfter (showVerdict (recordOf search) m n nonzeros (now (list .entry)) (now (parts .entry)))
-        (shownReply (patternOf m n nonzeros (now (list .entry))) (search .cap) (recordOf search .best)
-        (floor (rulesOf (patternOf m n nonzeros (now (list .entry))) (search .cap)) (recordOf search))) ⌝ }
+    ensures reply { λ a. ⌜ showReply a ≡ showReplies search m n nonzeros (now (list .entry)) (now (parts .entry)) ⌝ }
 {
     show_search(search, m, n, nonzeros, list, parts)
 }

@@ -21,7 +21,7 @@ use Rattle.texts.specs.declared.ReadAnswer.{ReadAnswer}
 use Rattle.texts.specs.declared.ReadAnswer.the-variants as read-answer
 use Rattle.texts.specs.Header.{headerOf, headVerdict}
 use Rattle.texts.specs.Entries.{noCells, Entries, entriesFrom}
-use Rattle.texts.specs.Reading.{listed, parted, givenParts, entriesBelow, answerAfter, outputAfter, listAfter, partsAfter, textVerdict, readVerdict, readCall, readList, readParts, readReply}
+use Rattle.texts.specs.Reading.{listed, parted, givenParts, entriesBelow, answerAfter, outputAfter, listAfter, partsAfter, textVerdict, readVerdict, readCall, readList, readParts, readReply, readReplies}
 
 moved-fine : (v : Verdict) (place : ℕ) → moved v place ≡ Accepted → v ≡ Accepted
 unfolding moved
@@ -161,18 +161,11 @@ read-by-verdict (Refused word place) h = refl
 
 module _ (text list parts : List ℕ) where
   pub read-replies :
-      readReply (readCall text list parts)
-      ≡ replyAfter
-      (readVerdict text list parts)
-      (given (headerOf text .m ∷ headerOf text .n ∷ headerOf text .nonzeros ∷ bit (headerOf text .integer) ∷ []))
-  unfolding readCall
+      readReply (readCall text list parts) ≡ readReplies text list parts
+  unfolding readCall readReplies
   read-replies = read-by-verdict (readVerdict text list parts) (headerOf text)
 
   -- an answer that equals the definition replies so
   pub read-told :
-      {answer : ReadAnswer} → answer ≡ readCall text list parts →
-      readReply answer
-      ≡ replyAfter
-      (readVerdict text list parts)
-      (given (headerOf text .m ∷ headerOf text .n ∷ headerOf text .nonzeros ∷ bit (headerOf text .integer) ∷ []))
+      {answer : ReadAnswer} → answer ≡ readCall text list parts → readReply answer ≡ readReplies text list parts
   read-told e = ap readReply e ∙ read-replies

@@ -9,7 +9,7 @@ use Rattle.counting.specs.Sums.{count}
 use Rattle.model.specs.declared.Verdict.{Verdict}
 use Rattle.model.specs.declared.Verdict.the-variants.{Accepted, Refused}
 use Rattle.model.specs.Limits.{lineLimit}
-use Rattle.model.specs.Refusal.{Reply, given, refusal, _then_}
+use Rattle.model.specs.Refusal.{Reply, given, refusal, replyAfter, _then_}
 use Rattle.model.specs.Pattern.{entryBytes}
 use Rattle.texts.specs.declared.Header.{Header}
 use Rattle.texts.specs.declared.ReadAnswer.{ReadAnswer}
@@ -95,3 +95,9 @@ readParts text list parts =
 unfoldable pub readReply : ReadAnswer → Reply
 readReply (read-answer.Read m n nonzeros integer) = given (m ∷ n ∷ nonzeros ∷ bit integer ∷ [])
 readReply (read-answer.Refused word place) = refusal word place
+
+-- what a reading replies: m, n, N and F of the header
+unfoldable pub readReplies : List ℕ → List ℕ → List ℕ → Reply
+readReplies text list parts =
+    let h = headerOf text in
+    replyAfter (readVerdict text list parts) (given (h .m ∷ h .n ∷ h .nonzeros ∷ bit (h .integer) ∷ []))

@@ -8,15 +8,11 @@ use crate::giving::give_parts;
 use crate::head::head_verdict;
 use crate::head::header_of;
 use model::Verdict;
-ghost use mathlib.Core.List.{[], _∷_};
 ghost use mathlib.Core.Path.{_≡_};
 ghost use Prim.Native.Nat.{_*_, _≤_};
-ghost use Rattle.counting.specs.Tests.{bit};
 ghost use Rattle.model.specs.Limits.{lineLimit};
-ghost use Rattle.model.specs.Refusal.{given, replyAfter};
-ghost use Rattle.texts.specs.Header.{headerOf};
 ghost use Rattle.texts.specs.Entries.{Entries};
-ghost use Rattle.texts.specs.Reading.{listed, givenParts, entriesBelow, answerAfter, listAfter, partsAfter, readVerdict, readCall, readList, readParts, readReply};
+ghost use Rattle.texts.specs.Reading.{listed, givenParts, entriesBelow, answerAfter, listAfter, partsAfter, readCall, readList, readParts, readReply, readReplies};
 
 // The list as output, and for integer the parts.
 fn give(cells: &[u8], header: Header, list: &mut [u8], parts: &mut [u8])
@@ -59,8 +55,7 @@ pub fn read(text: &[u8], list: &mut [u8], parts: &mut [u8]) -> ReadAnswer
     ensures answer { λ r. ⌜ r ≡ readCall (now (text .entry)) (now (list .entry)) (now (parts .entry)) ⌝ }
     ensures list { λ r. ⌜ now (list .exit) ≡ readList (now (text .entry)) (now (list .entry)) (now (parts .entry)) ⌝ }
     ensures parts { λ r. ⌜ now (parts .exit) ≡ readParts (now (text .entry)) (now (list .entry)) (now (parts .entry)) ⌝ }
-    ensures reply { λ r. ⌜ readReply r ≡ replyAfter (readVerdict (now (text .entry)) (now (list .entry)) (now (parts .entry)))
-        (given (headerOf (now (text .entry)) .m ∷ headerOf (now (text .entry)) .n ∷ headerOf (now (text .entry)) .nonzeros ∷ bit (headerOf (now (text .entry)) .integer) ∷ [])) ⌝ }
+    ensures reply { λ r. ⌜ readReply r ≡ readReplies (now (text .entry)) (now (list .entry)) (now (parts .entry)) ⌝ }
 {
     let header = header_of(text);
     let head = head_verdict(header, text.len(), list.len(), parts.len());

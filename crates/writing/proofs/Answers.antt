@@ -23,7 +23,7 @@ use Rattle.writing.specs.declared.Figures.{Figures}
 use Rattle.writing.specs.declared.WriteAnswer.{WriteAnswer}
 use Rattle.writing.specs.declared.WriteAnswer.the-variants as write-answer
 use Rattle.writing.specs.Written.{Puts, textOf}
-use Rattle.writing.specs.Writing.{nonzeroVerdict, writeVerdict, lengthAnswer, textOut, answerAfter, outAfter, writeCall, writeOut, writeReply}
+use Rattle.writing.specs.Writing.{nonzeroVerdict, writeVerdict, lengthAnswer, textOut, answerAfter, outAfter, writeCall, writeOut, writeReply, writeReplies}
 
 -- the checks one after another
 module _ (m n nonzeros : ℕ) (list parts : List ℕ) where
@@ -148,20 +148,12 @@ write-by-verdict (Refused word place) text out = refl
 
 module _ (m n nonzeros : ℕ) (list parts : List ℕ) (f : Figures) (out : List ℕ) where
   pub write-replies :
-      let text = textOf m n nonzeros list parts f in
-      writeReply (writeCall m n nonzeros list parts f out)
-      ≡ replyAfter
-      (writeVerdict m n nonzeros list parts then refuse (ltb (length out) (length text)) ShortBuffer 0)
-      (given (length text ∷ []))
-  unfolding writeCall
+      writeReply (writeCall m n nonzeros list parts f out) ≡ writeReplies m n nonzeros list parts f out
+  unfolding writeCall writeReplies
   write-replies = write-by-verdict (writeVerdict m n nonzeros list parts) (textOf m n nonzeros list parts f) out
 
   -- an answer that equals the definition replies so
   pub write-told :
       {answer : WriteAnswer} → answer ≡ writeCall m n nonzeros list parts f out →
-      let text = textOf m n nonzeros list parts f in
-      writeReply answer
-      ≡ replyAfter
-      (writeVerdict m n nonzeros list parts then refuse (ltb (length out) (length text)) ShortBuffer 0)
-      (given (length text ∷ []))
+      writeReply answer ≡ writeReplies m n nonzeros list parts f out
   write-told e = ap writeReply e ∙ write-replies

@@ -9,7 +9,7 @@ use Rattle.counting.specs.Tests.{_or_, pick}
 use Rattle.model.specs.declared.Word.the-variants.{ShortBuffer}
 use Rattle.model.specs.declared.Verdict.{Verdict}
 use Rattle.model.specs.declared.Verdict.the-variants.{Accepted, Refused}
-use Rattle.model.specs.Refusal.{Reply, given, refusal, refuse, _then_}
+use Rattle.model.specs.Refusal.{Reply, given, refusal, replyAfter, refuse, _then_}
 use Rattle.model.specs.Pattern.{entryBytes}
 use Rattle.model.specs.Calls.{sizesVerdict, entryVerdict}
 use Rattle.pattern.specs.Checks.{eachVerdict}
@@ -63,3 +63,11 @@ writeOut m n nonzeros list parts f out =
 unfoldable pub writeReply : WriteAnswer → Reply
 writeReply (write-answer.Written len) = given (len ∷ [])
 writeReply (write-answer.Refused word place) = refusal word place
+
+-- what a writing replies: the text's length; last of the checks is 9 for its output
+unfoldable pub writeReplies : ℕ → ℕ → ℕ → List ℕ → List ℕ → Figures → List ℕ → Reply
+writeReplies m n nonzeros list parts f out =
+    let text = textOf m n nonzeros list parts f in
+    replyAfter
+    (writeVerdict m n nonzeros list parts then refuse (ltb (length out) (length text)) ShortBuffer 0)
+    (given (length text ∷ []))

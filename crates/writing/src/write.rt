@@ -12,14 +12,11 @@ use pattern::reading::put;
 use pattern::reading::row_of;
 use pattern::reading::wide16;
 ghost use mathlib.Core.Path.{_≡_};
-ghost use mathlib.Core.List.{[], _∷_, _++_};
+ghost use mathlib.Core.List.{_++_};
 ghost use Prim.Native.Nat.{_+_, _%_, _≤_, _<_};
-ghost use lib.Dec.{ltb};
 ghost use lib.ListN.{length};
-ghost use Rattle.model.specs.declared.Word.the-variants.{ShortBuffer};
-ghost use Rattle.model.specs.Refusal.{given, replyAfter, refuse, _then_};
 ghost use Rattle.writing.specs.Written.{Puts, decimals, numberText, figureText, entryText, entriesText, endingText, commentText, sizesText, headText, bodyText, textOf};
-ghost use Rattle.writing.specs.Writing.{writeVerdict, lengthAnswer, textOut, writeCall, writeOut, writeReply};
+ghost use Rattle.writing.specs.Writing.{lengthAnswer, textOut, writeCall, writeOut, writeReply, writeReplies};
 
 pub mod lines;
 
@@ -219,9 +216,7 @@ pub fn write(
 ) -> WriteAnswer
     ensures answer { λ r. ⌜ r ≡ writeCall m n nonzeros (now (list .entry)) (now (parts .entry)) figures (now (out .entry)) ⌝ }
     ensures out { λ r. ⌜ now (out .exit) ≡ writeOut m n nonzeros (now (list .entry)) (now (parts .entry)) figures (now (out .entry)) ⌝ }
-    ensures reply { λ r. ⌜ writeReply r ≡ replyAfter (writeVerdict m n nonzeros (now (list .entry)) (now (parts .entry))
-        then refuse (ltb (length (now (out .entry))) (length (textOf m n nonzeros (now (list .entry)) (now (parts .entry)) figures))) ShortBuffer 0)
-        (given (length (textOf m n nonzeros (now (list .entry)) (now (parts .entry)) figures) ∷ [])) ⌝ }
+    ensures reply { λ r. ⌜ writeReply r ≡ writeReplies m n nonzeros (now (list .entry)) (now (parts .entry)) figures (now (out .entry)) ⌝ }
 {
     let verdict = write_verdict(m, n, nonzeros, list, parts);
     match verdict {

@@ -17,7 +17,7 @@ use Rattle.model.specs.Pattern.{Pattern, patternOf}
 use Rattle.model.specs.Split.{capFromPercent}
 use Rattle.model.specs.Walk.{Record, rulesOf, floor}
 use Rattle.model.specs.State.{recordOf}
-use Rattle.model.specs.Calls.{openVerdict, runVerdict, showVerdict, capVerdict, capAfter, capCall, openCall, completeNumber, ended, ranRecord, ranAfter, runCall, shown, shownAfter, showCall, capReply, runReply, showReply, shownReply}
+use Rattle.model.specs.Calls.{runVerdict, showVerdict, capVerdict, capAfter, capCall, openCall, completeNumber, ended, ranRecord, ranAfter, runCall, shown, shownAfter, showCall, capReply, runReply, showReply, shownReply, openReplies, capReplies, runReplies, showReplies}
 
 -- the cap from a percentage: the cap
 cap-by-verdict :
@@ -29,34 +29,32 @@ cap-by-verdict (Refused word place) nonzeros percent = refl
 
 pub cap-replies :
     (nonzeros percent : ℕ) →
-    capReply (capCall nonzeros percent) ≡ replyAfter (capVerdict nonzeros percent) (given (capFromPercent nonzeros percent ∷ []))
-unfolding capCall
+    capReply (capCall nonzeros percent) ≡ capReplies nonzeros percent
+unfolding capCall capReplies
 cap-replies nonzeros percent = cap-by-verdict (capVerdict nonzeros percent) nonzeros percent
 
 pub cap-told :
     {answer : CapAnswer} (nonzeros percent : ℕ) → answer ≡ capCall nonzeros percent →
-    (answer ≡ capCall nonzeros percent)
-    × (capReply answer ≡ replyAfter (capVerdict nonzeros percent) (given (capFromPercent nonzeros percent ∷ [])))
+    (answer ≡ capCall nonzeros percent) × (capReply answer ≡ capReplies nonzeros percent)
 cap-told nonzeros percent e = (e, ap capReply e ∙ cap-replies nonzeros percent)
 
 -- a check: no values
 pub verdict-told :
     {answer : Verdict} (verdict : Verdict) → answer ≡ verdict →
-    (answer ≡ verdict) × (verdictReply answer ≡ replyAfter verdict (given []))
-unfolding verdictReply
+    (answer ≡ verdict) × (verdictReply answer ≡ verdictReply verdict)
 verdict-told verdict e = (e, ap verdictReply e)
 
 -- an opening: no values beside the search
 pub open-replies :
     (m n nonzeros : ℕ) (list : List ℕ) (cap : ℕ) →
-    verdictReply (openCall m n nonzeros list cap .verdict) ≡ replyAfter (openVerdict m n nonzeros list cap) (given [])
-unfolding openCall verdictReply
+    verdictReply (openCall m n nonzeros list cap .verdict) ≡ openReplies m n nonzeros list cap
+unfolding openCall openReplies
 open-replies m n nonzeros list cap = refl
 
 pub open-told :
     {answer : Opened} (m n nonzeros : ℕ) (list : List ℕ) (cap : ℕ) → answer ≡ openCall m n nonzeros list cap →
     (answer ≡ openCall m n nonzeros list cap)
-    × (verdictReply (answer .verdict) ≡ replyAfter (openVerdict m n nonzeros list cap) (given []))
+    × (verdictReply (answer .verdict) ≡ openReplies m n nonzeros list cap)
 open-told m n nonzeros list cap e =
     (e, ap (λ (a : Opened). verdictReply (a .verdict)) e ∙ open-replies m n nonzeros list cap)
 
@@ -76,11 +74,8 @@ run-by-verdict (Refused word place) s P budget = refl
 
 pub run-replies :
     (s : Search) (m n nonzeros : ℕ) (list : List ℕ) (budget : ℕ) →
-    runReply (runCall s m n nonzeros list budget .answer)
-    ≡ replyAfter
-    (runVerdict (recordOf s) m n nonzeros list budget)
-    (given (completeNumber (ranRecord (recordOf s) (patternOf m n nonzeros list) budget .complete) ∷ []))
-unfolding runCall
+    runReply (runCall s m n nonzeros list budget .answer) ≡ runReplies s m n nonzeros list budget
+unfolding runCall runReplies
 run-replies s m n nonzeros list budget =
     run-by-verdict (runVerdict (recordOf s) m n nonzeros list budget) s (patternOf m n nonzeros list) budget
 
@@ -88,10 +83,7 @@ pub run-told :
     {answer : Ran} (s : Search) (m n nonzeros : ℕ) (list : List ℕ) (budget : ℕ) →
     answer ≡ runCall s m n nonzeros list budget →
     (answer ≡ runCall s m n nonzeros list budget)
-    × (runReply (answer .answer)
-    ≡ replyAfter
-    (runVerdict (recordOf s) m n nonzeros list budget)
-    (given (completeNumber (ranRecord (recordOf s) (patternOf m n nonzeros list) budget .complete) ∷ [])))
+    × (runReply (answer .answer) ≡ runReplies s m n nonzeros list budget)
 run-told s m n nonzeros list budget e =
     (e, ap (λ (a : Ran). runReply (a .answer)) e ∙ run-replies s m n nonzeros list budget)
 
@@ -111,14 +103,7 @@ show-by-verdict (Refused word place) r P = refl
 
 pub show-replies :
     (s : Search) (m n nonzeros : ℕ) (list parts : List ℕ) →
-    showReply (showCall s m n nonzeros list parts)
-    ≡ replyAfter
-    (showVerdict (recordOf s) m n nonzeros list parts)
-    (shownReply
-    (patternOf m n nonzeros list)
-    (s .cap)
-    (recordOf s .best)
-    (floor (rulesOf (patternOf m n nonzeros list) (s .cap)) (recordOf s)))
-unfolding showCall recordOf
+    showReply (showCall s m n nonzeros list parts) ≡ showReplies s m n nonzeros list parts
+unfolding showCall showReplies
 show-replies s m n nonzeros list parts =
     show-by-verdict (showVerdict (recordOf s) m n nonzeros list parts) (recordOf s) (patternOf m n nonzeros list)

@@ -3,7 +3,7 @@
 use mathlib.Core.Path.{_≡_, sym, _∙_}
 use native.Mathlib.Omega.{arith}
 use Rattle.model.specs.declared.Verdict.the-variants.{Accepted}
-use Rattle.model.specs.Calls.{sizesVerdict}
+use Rattle.model.specs.Calls.{sizesVerdict, listReplies}
 use Rattle.model.proofs.Theorems.Replies.{verdict-told}
 use Rattle.pattern.proofs.Verdicts.{accepted-tag, nonzeros-small, list-sizes, list-short, list-entries}
 use borrow.Author.Needs.{needs}
@@ -27,6 +27,7 @@ mul-if1 : tie.Need-mul-if1
 mul-if1 c = omega (arith, nonzeros-small _ _ _ (accepted (c .before)))
 
 returns : tie.Need-returns
+unfolding listReplies
 returns c = verdict-told _ (sym (list-short _ _ _ _ (accepted (c .before .before)) (c .if1 .taken)))
 
 cast-entries-verdict : tie.Need-cast-entries-verdict
@@ -39,9 +40,11 @@ enum-known-sizes : tie.Need-enum-known-sizes
 enum-known-sizes c = search needs
 
 returns-2 : tie.Need-returns-2
+unfolding listReplies
 returns-2 c = verdict-told _ (c .entries-verdict .ensures ∙ sym (list-entries _ _ _ _ (accepted (c .before .before .before)) (c .before .if1 .left)))
 
 returns-3 : tie.Need-returns-3
+unfolding listReplies
 returns-3 c = verdict-told _ (sym (list-sizes _ _ _ _ _ _ (sym (c .before .before .before .sizes-verdict .ensures) ∙ c .before .sizes .given .1)))
 
 pub list-verdict-spec : {M : Type 1} → statement M

@@ -1,5 +1,6 @@
 -- `pattern::open_verdict` meets its contract. Checks may be grouped.
 -- Assumes nothing.
+use Rattle.model.specs.Calls.{openReplies}
 use Rattle.model.proofs.Theorems.Replies.{verdict-told}
 use Rattle.pattern.proofs.Verdicts.{open-is}
 use borrow.Author.Needs.{needs}
@@ -16,6 +17,7 @@ and-then-requires : tie.Need-and-then-requires
 and-then-requires c κs = search needs
 
 returns : tie.Need-returns
+unfolding openReplies
 returns c = verdict-told _ (cc (open-is (c .before .before .before .before .args .m) (c .before .before .before .before .args .n) (c .before .before .before .before .args .nonzeros) (c .before .before .before .before .args .list .now) (c .before .before .before .before .args .cap)))
 
 pub open-verdict-spec : {M : Type 1} → statement M

@@ -3,7 +3,7 @@
 use mathlib.Core.Path.{_≡_, sym, _∙_}
 use native.Mathlib.Omega.{arith}
 use Rattle.model.specs.declared.Verdict.the-variants.{Accepted}
-use Rattle.pattern.specs.Measures.{measureVerdict, loadCall}
+use Rattle.pattern.specs.Measures.{measureVerdict, loadCall, loadReplies}
 use Rattle.pattern.proofs.Verdicts.{accepted-tag, nonzeros-small}
 use Rattle.pattern.proofs.Answers.{measured-told, measure-sizes, load-value, load-refused}
 use borrow.Author.Needs.{needs}
@@ -33,11 +33,11 @@ enum-known-verdict : tie.Need-enum-known-verdict
 enum-known-verdict c = search needs
 
 returns : tie.Need-returns
-unfolding loadCall
+unfolding loadCall loadReplies
 returns c = measured-told _ _ (load-value _ _ _ _ _ _ _ (accepted (c .before .before)) (c .load-of .ensures))
 
 returns-2 : tie.Need-returns-2
-unfolding loadCall
+unfolding loadCall loadReplies
 returns-2 c = measured-told _ _ (load-refused _ _ _ _ _ _ _ _ (sym (c .before .before .before .measure-verdict .ensures) ∙ c .before .verdict .given .1))
 
 pub load-spec : {M : Type 1} → statement M
