@@ -20,7 +20,7 @@ use Rattle.model.specs.Split.{Split, Meets, volume}
 use Rattle.model.specs.Walk.{Record, rulesOf, floor}
 use Rattle.model.specs.Calls.{shownFrom, shown, partBytes, shownParts, shownAfter, partsAfter, showReply, shownReply}
 use Rattle.model.proofs.Theorems.Replies.{show-by-verdict}
-use Rattle.showing.proofs.Same.{bytes-length, bytes-rest, split-back, volume-back, load-back}
+use Rattle.showing.proofs.Same.{bytes-length, bytes-rest, byte-back, volume-back, load-back}
 use Rattle.search.specs.Demand.{SplitAnswered, ShowAnswered}
 
 -- what the claims on a showing rest on: the facts of demand 3 at a record
@@ -48,7 +48,7 @@ module _
           one-fits = omega (arith, load-back P σ One parts room, meets .one-fits);
         };
         volume-is = volume-back P σ parts room;
-        walk-shows = (best, b, (λ t l. split-back σ (P .size) t parts room l));
+        walk-shows = (best, b, (λ t l. byte-back σ (P .size) t parts room l));
         floor-is = refl;
         floor-below = floor-below;
         complete-closed = λ done. complete-closed done best b;

@@ -19,7 +19,7 @@ use Rattle.model.specs.declared.ShowAnswer.the-variants as show-answer
 use Rattle.model.specs.Limits.{capLimit, triesLimit}
 use Rattle.model.specs.Refusal.{given, replyAfter, verdictReply}
 use Rattle.model.specs.Pattern.{Pattern, patternOf, lineTotal}
-use Rattle.model.specs.Split.{Split, Meets, volume}
+use Rattle.model.specs.Split.{Split, Meets, partNumber, volume}
 use Rattle.model.specs.Walk.{Record, rulesOf, walked, floor}
 use Rattle.model.specs.State.{recordOf, searchOf, stateFine}
 use Rattle.model.specs.Calls.{listVerdict, openVerdict, openCall, completeNumber, ranAfter, shownFrom, shownAfter, partsAfter, runReply, showReply, shownReply, openReplies}
@@ -92,8 +92,8 @@ pub record SplitAnswered (P : Pattern) (cap : ℕ) (r : Record) (parts : List �
   -- the split read off these bytes meets the cap, and has the volume answered as its published volume
   pub meets : Meets P cap (splitOf after)
   pub volume-is : volume P (splitOf after) ≡ shown
-  -- it is the one that the walk shows
-  pub walk-shows : (best : List ℕ) × (r .best ≡ some best) × ((t : ℕ) → t < P .size → splitOf after t ≡ shownFrom P cap best t)
+  -- it is the one that the walk shows, byte by byte
+  pub walk-shows : (best : List ℕ) × (r .best ≡ some best) × ((t : ℕ) → t < P .size → getD after t 0 ≡ partNumber (shownFrom P cap best t))
   -- every split that meets the cap has at least the floor answered as its published volume
   pub floor-is : low ≡ floor (rulesOf P cap) r
   pub floor-below : (σ : Split) → Meets P cap σ → low ≤ volume P σ
