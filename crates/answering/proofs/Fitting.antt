@@ -1,13 +1,11 @@
 -- Every answer has at most 20,231 bytes, and so fits the program's output.
 -- Assumes nothing.
-use mathlib.Core.Bool.{Bool, true, false}
 use mathlib.Core.List.{List, _++_}
-use mathlib.Core.Path.{_≡_, refl, sym, _∙_, ap}
+use mathlib.Core.Path.{_≡_, refl}
 use Prim.Native.Nat.{ℕ, _+_, _≤_}
 use native.Mathlib.Omega.{arith}
 use lib.Dec.{ltb}
 use lib.ListN.{length, drop, length-append}
-use Rattle.counting.specs.Tests.{pick}
 use Rattle.counting.proofs.Joined.{by-test, pick-true, pick-false}
 use Rattle.model.specs.declared.Word.{Word}
 use Rattle.model.specs.declared.Word.the-variants.{EntryForm, ShortBuffer}
@@ -25,8 +23,6 @@ use Rattle.model.specs.Calls.{capCall, openCall, runCall, showCall, showParts}
 use Rattle.texts.specs.declared.ReadAnswer.{ReadAnswer}
 use Rattle.texts.specs.declared.ReadAnswer.the-variants as read-answer
 use Rattle.texts.specs.Reading.{readCall, readList}
-use Rattle.writing.specs.declared.Figures.{Figures}
-use Rattle.writing.specs.declared.WriteAnswer.{WriteAnswer}
 use Rattle.writing.specs.declared.WriteAnswer.the-variants as write-answer
 use Rattle.writing.specs.Written.{numberText, figureText, #tries, #floor, textOf}
 use Rattle.writing.specs.Writing.{writeVerdict, lengthAnswer, answerAfter, writeCall}

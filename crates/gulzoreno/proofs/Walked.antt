@@ -1,7 +1,7 @@
--- Where no check refuses the C function's call, its run and its showing are accepted, and what it answers and writes is what the walk
--- shows after the budget.
+-- Where no check refuses the C function's call, it is a history of an opening, a run and a showing: demand 3 says what its showing
+-- answered and left, with the walk's record after the budget.
 -- Assumes nothing.
-use mathlib.Core.Bool.{Bool, true, false, not}
+use mathlib.Core.Bool.{true, false, not}
 use mathlib.Core.List.{List}
 use mathlib.Core.Path.{_≡_, refl, _∙_, ap, subst}
 use Prim.Native.Nat.{ℕ, _+_, _≤_}
@@ -10,7 +10,7 @@ use lib.Dec.{ltb}
 use lib.ListN.{length}
 use borrow.Author.Tests.{ltb-false, le-ltb}
 use Rattle.counting.specs.Tests.{_or_}
-use Rattle.counting.proofs.Joined.{or-fails, or-fails-left, or-fails-right}
+use Rattle.counting.proofs.Joined.{or-fails, or-fails-right}
 use Rattle.model.specs.declared.Word.the-variants.{ShortBuffer, Budget, State}
 use Rattle.model.specs.declared.Verdict.{Verdict}
 use Rattle.model.specs.declared.Verdict.the-variants.{Accepted}
@@ -20,24 +20,18 @@ use Rattle.model.specs.declared.ShowAnswer.{ShowAnswer}
 use Rattle.model.specs.Limits.{budgetLimit, triesLimit}
 use Rattle.model.specs.Refusal.{refuse, _then_}
 use Rattle.model.specs.Pattern.{Pattern, patternOf, lineTotal}
-use Rattle.model.specs.Walk.{Record, rulesOf, freshOf, walk, walked, floor}
+use Rattle.model.specs.Walk.{Record, rulesOf, freshOf, walk, walked}
 use Rattle.model.specs.State.{searchOf, stateFine}
-use Rattle.model.specs.Calls.{listVerdict, openVerdict, runVerdict, showVerdict, openCall, ended, ranAfter, runCall, shown, shownParts, shownAfter, partsAfter, showCall, showParts, showCode}
+use Rattle.model.specs.Calls.{listVerdict, openVerdict, runVerdict, showVerdict, openCall, ranAfter, runCall, showCall, showParts, showCode}
 use Rattle.model.proofs.Walk.Reached.{walk-for}
 use Rattle.model.proofs.Walk.Ending.{fresh-tries}
 use Rattle.model.proofs.Theorems.Accepted.{open-accepted, then-first, then-second, refuse-not, refuse-no}
 use Rattle.pattern.proofs.Verdicts.{then-accepted}
-use Rattle.search.specs.History.{acceptedBudget, Handed, handedSlice, History, opened, ran}
-use Rattle.search.specs.Demand.{Demand}
-use Rattle.search.proofs.Demand3.{demand-3}
+use Rattle.search.specs.History.{acceptedBudget, Handed, handedSlice, History, opened, ran, showed}
+use Rattle.search.specs.Demand.{Demand, ShowAnswered}
+use Rattle.search.proofs.Demand3.{ended-budget, demand-3}
 use Rattle.gulzoreno.specs.Figures.{figuresBytes}
 use Rattle.gulzoreno.specs.Host.{outputVerdict, hostVerdict, hostSearch, hostCodeAfter, hostPartsAfter, figuresShown, hostFiguresAfter, bipartitionCode, bipartitionParts, bipartitionFigures}
-
--- an accepted run's budget counts
-ended-budget : (done : Bool) (budget : ℕ) → acceptedBudget (ended done) budget ≡ budget
-unfolding acceptedBudget ended
-ended-budget true budget = refl
-ended-budget false budget = refl
 
 module _
     (m n nonzeros : ℕ) (list : List ℕ) (cap budget : ℕ) (parts figures : List ℕ)
@@ -77,9 +71,6 @@ module _
       ShortBuffer
       0
       (then-second (refuse (ltb budgetLimit budget) Budget 0) (refuse (ltb (length parts) nonzeros or ltb (length figures) figuresBytes) ShortBuffer 0) output)
-
-  pub parts-long : nonzeros ≤ length parts
-  parts-long = ltb-false (length parts) nonzeros (or-fails-left (ltb (length parts) nonzeros) (ltb (length figures) figuresBytes) long)
 
   pub figures-long : figuresBytes ≤ length figures
   figures-long = ltb-false (length figures) figuresBytes (or-fails-right (ltb (length parts) nonzeros) (ltb (length figures) figuresBytes) long)
@@ -156,61 +147,33 @@ module _
       (demand-3 m n nonzeros list cap .throughout (ran start handed budget Run refl) .2)
 
   -- the showing
-  shows : showVerdict (after budget) m n nonzeros list parts ≡ Accepted
-  unfolding showVerdict
-  shows =
-      then-accepted _ (state-passes budget (at-end .fine))
-      ∙ refuse-no _ ShortBuffer 0 (le-ltb (length parts) nonzeros parts-long)
-
-  -- what is shown
   abbrev pub Shown : ShowAnswer
-  Shown = shown P cap (after budget .best) (floor (rulesOf P cap) (after budget))
+  Shown = showCall (hostSearch m n nonzeros list cap budget) m n nonzeros list parts
 
-  shown-walks : showCall (hostSearch m n nonzeros list cap budget) m n nonzeros list parts ≡ Shown
-  unfolding shownAfter
-  shown-walks =
-      at-end .show-is handed parts
-      ∙ ap (λ (v : Verdict). shownAfter v (after budget) P) shows
-      ∙ ap (λ (c : ℕ). shown P c (after budget .best) (floor (rulesOf P c) (after budget))) (cap-kept budget)
+  abbrev pub Left : List ℕ
+  Left = showParts (hostSearch m n nonzeros list cap budget) m n nonzeros list parts
 
-  parts-walk :
-      showParts (hostSearch m n nonzeros list cap budget) m n nonzeros list parts
-      ≡ shownParts P cap (after budget .best) parts
-  unfolding partsAfter
-  parts-walk =
-      at-end .parts-are handed parts
-      ∙ ap (λ (v : Verdict). partsAfter v (after budget) P parts) shows
-      ∙ ap (λ (c : ℕ). shownParts P c (after budget .best) parts) (cap-kept budget)
+  pub told :
+      ShowAnswered P cap (after budget) (showVerdict (after budget) m n nonzeros list parts) parts Shown Left
+  unfolding hostSearch
+  told =
+      subst
+      (λ (total : ℕ). ShowAnswered P cap (after total) (showVerdict (after total) m n nonzeros list parts) parts Shown Left)
+      (omega (arith, counts))
+      (demand-3 m n nonzeros list cap .throughout (showed (ran start handed budget Run refl) handed parts Left Shown refl refl) .1)
 
-  -- the answer, the parts and the figures
+  -- the answer, the parts and the figures are those of this showing
   pub code-is : bipartitionCode m n nonzeros list cap budget parts figures ≡ showCode Shown
   unfolding bipartitionCode hostCodeAfter
-  code-is =
-      ap
-      (λ (v : Verdict). hostCodeAfter v (showCall (hostSearch m n nonzeros list cap budget) m n nonzeros list parts))
-      accepted
-      ∙ ap showCode shown-walks
+  code-is = ap (λ (v : Verdict). hostCodeAfter v Shown) accepted
 
-  pub parts-are : bipartitionParts m n nonzeros list cap budget parts figures ≡ shownParts P cap (after budget .best) parts
+  pub parts-are : bipartitionParts m n nonzeros list cap budget parts figures ≡ Left
   unfolding bipartitionParts hostPartsAfter
-  parts-are =
-      ap
-      (λ (v : Verdict). hostPartsAfter v (showParts (hostSearch m n nonzeros list cap budget) m n nonzeros list parts) parts)
-      accepted
-      ∙ parts-walk
+  parts-are = ap (λ (v : Verdict). hostPartsAfter v Left parts) accepted
 
   pub figures-are :
-      bipartitionFigures m n nonzeros list cap budget parts figures
-      ≡ figuresShown Shown (searchOf (after budget)) figures
+      bipartitionFigures m n nonzeros list cap budget parts figures ≡ figuresShown Shown (searchOf (after budget)) figures
   unfolding bipartitionFigures hostFiguresAfter
   figures-are =
-      ap
-      (λ (v : Verdict).
-      hostFiguresAfter
-      v
-      (showCall (hostSearch m n nonzeros list cap budget) m n nonzeros list parts)
-      (hostSearch m n nonzeros list cap budget)
-      figures)
-      accepted
-      ∙ ap (λ (a : ShowAnswer). figuresShown a (hostSearch m n nonzeros list cap budget) figures) shown-walks
+      ap (λ (v : Verdict). hostFiguresAfter v Shown (hostSearch m n nonzeros list cap budget) figures) accepted
       ∙ ap (λ (s : Search). figuresShown Shown s figures) (at-end .whole)

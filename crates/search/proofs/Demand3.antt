@@ -35,6 +35,16 @@ use Rattle.search.proofs.ShowTold.{show-tells}
 use Rattle.search.proofs.Points.{walked-back, walked-cap, walked-runs, show-room, demand-at}
 use Rattle.search.proofs.Wanting.{accepts-exactly, refuses-exactly}
 
+-- an accepted run's budget counts, and a refused one's does not
+pub ended-budget : (done : Bool) (budget : ℕ) → acceptedBudget (ended done) budget ≡ budget
+unfolding acceptedBudget ended
+ended-budget true budget = refl
+ended-budget false budget = refl
+
+refused-budget : (word : Word) (place budget : ℕ) → acceptedBudget (run-answer.Refused word place) budget ≡ 0
+unfolding acceptedBudget
+refused-budget word place budget = refl
+
 module _ (m n nonzeros : ℕ) (list : List ℕ) (cap : ℕ) (accepted : openVerdict m n nonzeros list cap ≡ Accepted) where
   -- the pattern
   abbrev P : Pattern
@@ -47,16 +57,6 @@ module _ (m n nonzeros : ℕ) (list : List ℕ) (cap : ℕ) (accepted : openVerd
 
   kept-total : {s : Search} {a b : ℕ} → a ≡ b → Kept s a → Kept s b
   kept-total {s} e k = subst (λ (t : ℕ). Kept s t) e k
-
-  -- an accepted run's budget counts, and a refused one's does not
-  ended-budget : (done : Bool) (budget : ℕ) → acceptedBudget (ended done) budget ≡ budget
-  unfolding acceptedBudget ended
-  ended-budget true budget = refl
-  ended-budget false budget = refl
-
-  refused-budget : (word : Word) (place budget : ℕ) → acceptedBudget (run-answer.Refused word place) budget ≡ 0
-  unfolding acceptedBudget
-  refused-budget word place budget = refl
 
   -- an accepted run is within the limit on tries
   run-limit :

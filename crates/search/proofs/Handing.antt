@@ -1,10 +1,9 @@
 -- What a call is handed: where the table, read with a record of the walk, refuses neither list nor state, its pattern is the opening's.
 -- Assumes nothing.
-use mathlib.Core.Bool.{Bool, true, false, not}
+use mathlib.Core.Bool.{true, not}
 use mathlib.Core.List.{List}
 use mathlib.Core.Path.{_≡_, refl, sym, _∙_}
-use Prim.Native.Nat.{ℕ, _*_, _<_}
-use lib.ListN.{getD}
+use Prim.Native.Nat.{ℕ}
 use borrow.Author.Tests.{eqb-true, not-false}
 use Rattle.counting.proofs.Joined.{and-left, and-right}
 use Rattle.model.specs.declared.Word.the-variants.{State}
