@@ -9,7 +9,6 @@ use native.Mathlib.Omega.{arith}
 use lib.ListN.{length}
 use Rattle.counting.proofs.Joined.{never}
 use Rattle.model.specs.declared.Word.{Word}
-use Rattle.model.specs.declared.Part.the-variants.{Zero, One}
 use Rattle.model.specs.declared.Verdict.{Verdict}
 use Rattle.model.specs.declared.Verdict.the-variants.{Accepted, Refused}
 use Rattle.model.specs.declared.ShowAnswer.{ShowAnswer}
@@ -20,7 +19,7 @@ use Rattle.model.specs.Split.{Split, Meets, volume}
 use Rattle.model.specs.Walk.{Record, rulesOf, floor}
 use Rattle.model.specs.Calls.{shownFrom, shown, partBytes, shownParts, shownAfter, partsAfter, showReply, shownReply}
 use Rattle.model.proofs.Theorems.Replies.{show-by-verdict}
-use Rattle.showing.proofs.Same.{bytes-length, bytes-rest, byte-back, volume-back, load-back}
+use Rattle.showing.proofs.Same.{bytes-length, bytes-rest, byte-back, volume-back, meets-back}
 use Rattle.search.specs.Demand.{SplitAnswered, ShowAnswered}
 
 -- what the claims on a showing rest on: the facts of demand 3 at a record
@@ -41,12 +40,8 @@ module _
       SplitAnswered P cap r parts (volume P (shownFrom P cap best)) lowest (partBytes (shownFrom P cap best) (P .size) parts)
   split-answered best b room =
       let σ = shownFrom P cap best in
-      let meets = shown-meets best b in
       record {
-        meets = record {
-          zero-fits = omega (arith, load-back P σ Zero parts room, meets .zero-fits);
-          one-fits = omega (arith, load-back P σ One parts room, meets .one-fits);
-        };
+        meets = meets-back P cap σ parts room (shown-meets best b);
         volume-is = volume-back P σ parts room;
         walk-shows = (best, b, (λ t l. byte-back σ (P .size) t parts room l));
         floor-is = refl;

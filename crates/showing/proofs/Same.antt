@@ -1,4 +1,4 @@
--- A split that is written and read back is the same, with its volume and loads.
+-- A split that is written and read back is the same: it has its volume and meets its caps.
 -- Assumes nothing.
 use mathlib.Core.List.{List}
 use mathlib.Core.Path.{_≡_, refl, sym, _∙_, ap}
@@ -14,10 +14,10 @@ use Rattle.counting.proofs.Joined.{no-way}
 use Rattle.model.specs.declared.Part.{Part}
 use Rattle.model.specs.declared.Part.the-variants.{Zero, One}
 use Rattle.model.specs.Pattern.{Pattern}
-use Rattle.model.specs.Split.{Split, partNumber, volume, load}
+use Rattle.model.specs.Split.{Split, Meets, partNumber, volume}
 use Rattle.model.specs.Calls.{partBytes}
 use Rattle.model.proofs.Alike.Patterns.{alike-self}
-use Rattle.model.proofs.Alike.Splits.{volume-same, load-same}
+use Rattle.model.proofs.Alike.Splits.{volume-same, meets-same}
 use Rattle.pattern.specs.Splits.{splitOf}
 
 -- writing parts keeps the length of the buffer
@@ -71,9 +71,15 @@ pub volume-back :
 volume-back P σ parts fits =
     volume-same (alike-self P) (splitOf (partBytes σ (P .size) parts)) σ (λ t b. split-back σ (P .size) t parts fits b)
 
--- and its loads
-pub load-back :
-    (P : Pattern) (σ : Split) (p : Part) (parts : List ℕ) → P .size ≤ length parts →
-    load P (splitOf (partBytes σ (P .size) parts)) p ≡ load P σ p
-load-back P σ p parts fits =
-    load-same (alike-self P) (splitOf (partBytes σ (P .size) parts)) σ (λ t b. split-back σ (P .size) t parts fits b) p
+-- and it meets the same caps
+pub meets-back :
+    (P : Pattern) (cap : ℕ) (σ : Split) (parts : List ℕ) → P .size ≤ length parts → Meets P cap σ →
+    Meets P cap (splitOf (partBytes σ (P .size) parts))
+meets-back P cap σ parts fits meets =
+    meets-same
+    (alike-self P)
+    σ
+    (splitOf (partBytes σ (P .size) parts))
+    (λ t b. sym (split-back σ (P .size) t parts fits b))
+    cap
+    meets

@@ -12,7 +12,7 @@ use Rattle.model.specs.Pattern.{Pattern, lineTotal}
 use Rattle.model.specs.Marking.{marking, valid}
 use Rattle.model.specs.Bound.{bound}
 use Rattle.model.specs.Walk.{Record, Rules, rulesOf, freshOf, walked, floor}
-use Rattle.model.specs.State.{recordOf, stateFine}
+use Rattle.model.specs.State.{recordOf}
 use Rattle.model.specs.Calls.{openedAfter, ranRecord, ranAfter, shown, shownParts, shownAfter, partsAfter}
 use Rattle.model.proofs.Alike.Patterns.{Alike, total-same}
 use Rattle.model.proofs.Alike.Marks.{trail-marks, valid-same}
@@ -56,12 +56,6 @@ module _ {P Q : Pattern} (a : Alike P Q) where
   pub alike-walked : (cap n : ℕ) → walked P cap n ≡ walked Q cap n
   unfolding walked
   alike-walked cap n = rw (alike-rules cap, alike-fresh cap)
-
-  -- whether a state is refused
-  pub alike-state :
-      (cap m n nonzeros : ℕ) (r : Record) →
-      stateFine (rulesOf P cap) m n nonzeros r ≡ stateFine (rulesOf Q cap) m n nonzeros r
-  alike-state cap m n nonzeros r = ap (λ (R : Rules). stateFine R m n nonzeros r) (alike-rules cap)
 
   -- the floor
   pub alike-floor : (cap : ℕ) (r : Record) → floor (rulesOf P cap) r ≡ floor (rulesOf Q cap) r

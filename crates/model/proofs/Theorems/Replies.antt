@@ -12,7 +12,7 @@ use Rattle.model.specs.declared.Search.{Search}
 use Rattle.model.specs.declared.CapAnswer.{CapAnswer}
 use Rattle.model.specs.declared.Opened.{Opened}
 use Rattle.model.specs.declared.Ran.{Ran}
-use Rattle.model.specs.Refusal.{Reply, given, replyAfter, verdictReply}
+use Rattle.model.specs.Refusal.{given, replyAfter, verdictReply}
 use Rattle.model.specs.Pattern.{Pattern, patternOf}
 use Rattle.model.specs.Split.{capFromPercent}
 use Rattle.model.specs.Walk.{Record, rulesOf, floor}
