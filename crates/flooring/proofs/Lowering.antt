@@ -12,7 +12,7 @@ use Rattle.model.specs.Marking.{marking}
 use Rattle.model.specs.Walk.{Rules, rulesOf, leastBound}
 use Rattle.bound.specs.declared.Evaluation.{Evaluation}
 use Rattle.bound.specs.Evaluated.{Evaluates}
-use Rattle.flooring.specs.Least.{lowered}
+use Rattle.flooring.specs.Least.{leastOf}
 
 -- a number lowers the least before one marking more or after
 lower-first : (b : Bool) (x y l k : ℕ) → k ≡ min x l → pick b (min y k) k ≡ min x (pick b (min y l) l)
@@ -68,20 +68,20 @@ pick-min true c x y least e f = ap (λ (z : ℕ). min z least) (f refl) ∙ sym 
 pick-min false c x y least e f = sym (pick-false (min y least) least (sym e))
 
 -- a marking's evaluation lowers the count as its bound does
-pub lowered-is : {P : Pattern} {cap : ℕ} (τ : List ℕ) {e : Evaluation} (least : ℕ)
-    → Evaluates P cap (marking P τ) e → lowered e least ≡ leastBound (rulesOf P cap) least (τ ∷ [])
-unfolding lowered leastBound rulesOf
-lowered-is τ {e} least k = pick-min (e .valid) _ (e .bound) _ least (k .valid-is) (k .bound-is)
+pub least-of-is : {P : Pattern} {cap : ℕ} (τ : List ℕ) {e : Evaluation} (least : ℕ)
+    → Evaluates P cap (marking P τ) e → leastOf e least ≡ leastBound (rulesOf P cap) least (τ ∷ [])
+unfolding leastOf leastBound rulesOf
+least-of-is τ {e} least k = pick-min (e .valid) _ (e .bound) _ least (k .valid-is) (k .bound-is)
 
 -- a count that a bound lowers or not
-pub lowered-yes : (e : Evaluation) (least : ℕ) → e .valid ≡ true → e .bound < least → e .bound ≡ lowered e least
-unfolding lowered
-lowered-yes e least v h = sym (pick-true (min (e .bound) least) least v ∙ omega arith)
+pub least-of-yes : (e : Evaluation) (least : ℕ) → e .valid ≡ true → e .bound < least → e .bound ≡ leastOf e least
+unfolding leastOf
+least-of-yes e least v h = sym (pick-true (min (e .bound) least) least v ∙ omega arith)
 
-pub lowered-not : (e : Evaluation) (least : ℕ) → e .valid ≡ true → least ≤ e .bound → least ≡ lowered e least
-unfolding lowered
-lowered-not e least v h = sym (pick-true (min (e .bound) least) least v ∙ omega arith)
+pub least-of-not : (e : Evaluation) (least : ℕ) → e .valid ≡ true → least ≤ e .bound → least ≡ leastOf e least
+unfolding leastOf
+least-of-not e least v h = sym (pick-true (min (e .bound) least) least v ∙ omega arith)
 
-pub lowered-invalid : (e : Evaluation) (least : ℕ) → e .valid ≡ false → least ≡ lowered e least
-unfolding lowered
-lowered-invalid e least v = sym (pick-false (min (e .bound) least) least v)
+pub least-of-invalid : (e : Evaluation) (least : ℕ) → e .valid ≡ false → least ≡ leastOf e least
+unfolding leastOf
+least-of-invalid e least v = sym (pick-false (min (e .bound) least) least v)

@@ -1,4 +1,3 @@
-pub mod Stacks
 pub mod Trails
 pub mod Orders
 pub mod Counts

@@ -1,100 +1,122 @@
--- The trail's methods do to a stack what the walk does to a marking.
+-- The trail's methods do to a trail what the walk does to a marking.
 -- Assumes nothing.
 use mathlib.Core.Bool.{Bool, true, false}
 use mathlib.Core.List.{List, [], _∷_}
 use mathlib.Core.Path.{_≡_, refl, sym, _∙_, ap}
-use Prim.Native.Nat.{ℕ, zero, suc, _+_, _-_, _≤_, _<_}
+use Prim.Native.Nat.{ℕ, zero, suc, _+_, _≤_, _<_}
 use native.Mathlib.Numerals.{add-one}
 use native.Mathlib.Omega.{arith}
-use lib.Dec.{ltb}
+use lib.Dec.{eqb}
 use lib.ListN.{length, getD, set}
-use borrow.Author.Tests.{lt-ltb, le-ltb, ltb-true, ltb-false}
-use Rattle.counting.specs.Tests.{pick}
-use Rattle.counting.proofs.Joined.{no-way, by-test, pick-true, pick-false}
+use lib.Seq.{getD-set-other}
+use borrow.Author.Tests.{lt-ltb, le-ltb, ne-eqb}
+use Rattle.counting.specs.Tests.{_or_, pick}
+use Rattle.counting.proofs.Joined.{no-way, or-eq, or-fails, pick-true}
+use Rattle.trail.specs.declared.Trail.{Trail}
+use Rattle.trail.specs.Trail.{topOf, trailWith, withMark, appended, dropped, markOr, lastMark, replaced, replacedAt, isPart, givesPartIn, partBefore, uncut, nextMark, lastAdvanced, advanced}
+use Rattle.trail.proofs.Methods.{top-suc, at-top, at-none, dropped-at, uncut-more, uncut-done}
 use Rattle.model.specs.Walk.{givesPart, oneAllowed, afterZero, advance}
-use Rattle.model.specs.State.{stack, arrayOf}
+use Rattle.model.specs.State.{stack, marksIn, arrayOf, trailOf}
 use Rattle.model.proofs.State.Arrays.{array-last, array-before, array-again, array-dropped, array-stack}
 use Rattle.model.proofs.Order.Mirrored.{stack-eq}
-use Rattle.marking.specs.declared.trail.Stack.{Stack}
-use Rattle.marking.specs.Stack.{stackOf, topOf, withMark, appended, dropped, droppedAt, lastMark, markIn, replaced, replacedAt, cell, givesPartIn, uncut, nextMark, raised, advanced}
-use Rattle.marking.proofs.Stacks.{top-suc, top-none, uncut-more, uncut-done}
 
 -- one mark more
-pub appended-is : (x : ℕ) (τ : List ℕ) → length τ < 240 → appended (stackOf τ) x ≡ stackOf (x ∷ τ)
-unfolding appended stackOf arrayOf
+pub appended-is : (x : ℕ) (τ : List ℕ) → length τ < 240 → appended (trailOf τ) x ≡ trailOf (x ∷ τ)
+unfolding appended trailOf arrayOf
 appended-is x τ b =
-    pick-true (withMark (stackOf τ) (length τ) x (length τ + 1)) (stackOf τ) (lt-ltb (length τ) 240 b)
-    ∙ ap (withMark (stackOf τ) (length τ) x) (add-one (length τ))
-
--- at the last index of a stack that has one
-at-top :
-    {A : Type 0} (f : ℕ → A) (other : A) (τ : List ℕ) (x : ℕ) → length τ < 240 →
-    pick (ltb (topOf (suc (length τ))) 240) (f (topOf (suc (length τ)))) other ≡ f (length τ)
-at-top f other τ x b =
-    pick-true (f (topOf (suc (length τ)))) other (lt-ltb (topOf (suc (length τ))) 240 (omega (arith, top-suc (length τ))))
-    ∙ ap f (top-suc (length τ))
-
-stackBy : List ℕ → ℕ → Stack
-stackBy a d = record { marks = a; len = d }
+    pick-true (withMark (trailOf τ) (length τ) x (length τ + 1)) (trailOf τ) (lt-ltb (length τ) 240 b)
+    ∙ ap (withMark (trailOf τ) (length τ) x) (add-one (length τ))
 
 -- without the last mark
-pub dropped-is : (x : ℕ) (τ : List ℕ) → length τ < 240 → dropped (stackOf (x ∷ τ)) ≡ stackOf τ
-unfolding dropped droppedAt stackOf stackBy
+pub dropped-is : (x : ℕ) (τ : List ℕ) → length τ < 240 → dropped (trailOf (x ∷ τ)) ≡ trailOf τ
+unfolding trailOf
 dropped-is x τ b =
-    at-top (λ (at : ℕ). withMark (stackOf (x ∷ τ)) at 0 at) (stackOf (x ∷ τ)) τ x b
-    ∙ ap (λ (a : List ℕ). stackBy a (length τ)) (array-dropped x τ)
+    dropped-at (trailOf (x ∷ τ)) (length τ) refl b
+    ∙ ap (λ (a : List ℕ). trailWith a (length τ)) (array-dropped x τ)
 
--- the last mark
-pub last-is : (x none : ℕ) (τ : List ℕ) → length τ < 240 → lastMark (stackOf (x ∷ τ)) none ≡ x
-unfolding lastMark markIn stackOf
+-- the last mark, or none
+pub last-is : (x none : ℕ) (τ : List ℕ) → length τ < 240 → lastMark (trailOf (x ∷ τ)) none ≡ x
+unfolding lastMark markOr trailOf
 last-is x none τ b =
-    at-top (λ (at : ℕ). getD (arrayOf (x ∷ τ)) at 0) none τ x b ∙ array-last x τ b
+    at-top (λ (at : ℕ). getD (arrayOf (x ∷ τ)) at 0) none (suc (length τ)) (length τ) refl b ∙ array-last x τ b
+
+pub last-none : (none : ℕ) → lastMark (trailOf []) none ≡ none
+unfolding lastMark markOr trailOf
+last-none none = at-none (getD (arrayOf []) (topOf 0) 0) none
 
 -- another last mark
-pub replaced-is : (x y : ℕ) (τ : List ℕ) → length τ < 240 → replaced (stackOf (x ∷ τ)) y ≡ stackOf (y ∷ τ)
-unfolding replaced replacedAt stackOf stackBy
+pub replaced-is : (x y : ℕ) (τ : List ℕ) → length τ < 240 → replaced (trailOf (x ∷ τ)) y ≡ trailOf (y ∷ τ)
+unfolding replaced replacedAt trailOf
 replaced-is x y τ b =
-    at-top (λ (at : ℕ). withMark (stackOf (x ∷ τ)) at y (suc (length τ))) (stackOf (x ∷ τ)) τ x b
-    ∙ ap (λ (a : List ℕ). stackBy a (suc (length τ))) (array-again x y τ)
+    at-top (λ (at : ℕ). withMark (trailOf (x ∷ τ)) at y (suc (length τ))) (trailOf (x ∷ τ)) (suc (length τ)) (length τ) refl b
+    ∙ ap (λ (a : List ℕ). trailWith a (suc (length τ))) (array-again x y τ)
 
--- an empty stack has no last mark
-last-none : (none : ℕ) → lastMark (stackOf []) none ≡ none
-unfolding lastMark markIn stackOf
-last-none none =
-    pick-false (getD (arrayOf []) (topOf 0) 0) none (le-ltb (topOf 0) 240 (omega (arith, top-none)))
+pub replaced-none : (y : ℕ) → replaced (trailOf []) y ≡ trailOf []
+unfolding replaced replacedAt trailOf
+replaced-none y = at-none (withMark (trailOf []) (topOf 0) y 0) (trailOf [])
 
-replaced-none : (y : ℕ) → replaced (stackOf []) y ≡ stackOf []
-unfolding replaced replacedAt stackOf
-replaced-none y =
-    pick-false
-    (withMark (stackOf []) (topOf 0) y 0)
-    (stackOf [])
-    (le-ltb (topOf 0) 240 (omega (arith, top-none)))
+-- the marks before an index that the array has, as a marking
+pub marks-before : (marks : List ℕ) (d : ℕ) → d ≤ 240 → stack (markOr 0 marks) d ≡ stack (λ i. getD marks i 0) d
+unfolding markOr
+marks-before marks d b =
+    stack-eq
+    (markOr 0 marks)
+    (λ i. getD marks i 0)
+    d
+    (λ i c. pick-true (getD marks i 0) 0 (lt-ltb i 240 (omega arith)))
 
--- some earlier mark is 0 or 1
-pub gives-is : (x : ℕ) (τ : List ℕ) → length τ < 240 → givesPartIn (arrayOf (x ∷ τ)) (length τ) ≡ givesPart τ
-unfolding givesPartIn cell
-gives-is x τ b =
-    ap
+-- the marking of a trail, and of that without its last mark
+pub marks-dropped : (t : Trail) (d : ℕ) → t .len ≡ suc d → d < 240 → marksIn t ≡ getD (t .marks) d 0 ∷ marksIn (dropped t)
+unfolding marksIn stack
+marks-dropped t d e b =
+    ap (stack (λ i. getD (t .marks) i 0)) e
+    ∙ ap
+    (getD (t .marks) d 0 ∷_)
+    (sym
+    (ap marksIn (dropped-at t d e b)
+    ∙ stack-eq
+    (λ i. getD (set (t .marks) d 0) i 0)
+    (λ i. getD (t .marks) i 0)
+    d
+    (λ i c. getD-set-other (t .marks) d i 0 0 (λ f. no-way (omega arith)))))
+
+-- a mark is a part's if it is 0 or 1
+part-tests : (x : ℕ) → isPart x ≡ eqb x 0 or eqb x 1
+unfolding _or_
+part-tests zero = refl
+part-tests (suc zero) = refl
+part-tests (suc (suc x)) =
+    le-ltb (suc (suc x)) 2 (omega arith)
+    ∙ sym (or-fails (ne-eqb (suc (suc x)) 0 (λ e. no-way (omega arith))) (ne-eqb (suc (suc x)) 1 (λ e. no-way (omega arith))))
+
+-- some mark before an index is 0 or 1
+pub gives-is : (marks : List ℕ) (d : ℕ) → givesPartIn marks d ≡ givesPart (stack (markOr 0 marks) d)
+unfolding givesPartIn givesPart stack
+gives-is marks zero = refl
+gives-is marks (suc d) = or-eq (part-tests (markOr 0 marks d)) (gives-is marks d)
+
+-- some mark before the last is 0 or 1
+pub before-is : (x : ℕ) (τ : List ℕ) → length τ < 240 → partBefore (trailOf (x ∷ τ)) ≡ givesPart τ
+unfolding partBefore trailOf
+before-is x τ b =
+    ap (givesPartIn (arrayOf (x ∷ τ))) (top-suc (length τ))
+    ∙ gives-is (arrayOf (x ∷ τ)) (length τ)
+    ∙ ap
     givesPart
-    (stack-eq
-    (cell (arrayOf (x ∷ τ)))
-    (λ i. getD (arrayOf τ) i 0)
-    (length τ)
-    (λ i c. pick-true (getD (arrayOf (x ∷ τ)) i 0) 0 (lt-ltb i 240 (omega arith)) ∙ array-before x τ i c)
+    (marks-before (arrayOf (x ∷ τ)) (length τ) (omega arith)
+    ∙ stack-eq (λ i. getD (arrayOf (x ∷ τ)) i 0) (λ i. getD (arrayOf τ) i 0) (length τ) (array-before x τ)
     ∙ array-stack τ (omega arith))
 
 -- the last mark, where it is not cut, becomes the next
-raised-is :
+last-advanced-is :
     (x : ℕ) (τ : List ℕ) → length τ < 240 →
-    raised (stackOf (x ∷ τ)) ≡ stackOf (nextMark x (givesPart τ) ∷ τ)
-unfolding raised stackOf
-raised-is x τ b =
+    lastAdvanced (trailOf (x ∷ τ)) ≡ trailOf (nextMark x (givesPart τ) ∷ τ)
+unfolding lastAdvanced
+last-advanced-is x τ b =
     ap
-    (replaced (stackOf (x ∷ τ)))
-    (ap (λ (y : ℕ). nextMark y (givesPartIn (arrayOf (x ∷ τ)) (topOf (suc (length τ))))) (last-is x 0 τ b)
-    ∙ ap (λ (d : ℕ). nextMark x (givesPartIn (arrayOf (x ∷ τ)) d)) (top-suc (length τ))
-    ∙ ap (nextMark x) (gives-is x τ b))
+    (replaced (trailOf (x ∷ τ)))
+    (ap (λ (y : ℕ). nextMark y (partBefore (trailOf (x ∷ τ)))) (last-is x 0 τ b)
+    ∙ ap (nextMark x) (before-is x τ b))
     ∙ replaced-is x (nextMark x (givesPart τ)) τ b
 
 next-after : (b : Bool) → nextMark 0 b ≡ pick b 1 2
@@ -106,36 +128,36 @@ next-cut : (b : Bool) → nextMark 1 b ≡ 2
 unfolding nextMark
 next-cut b = refl
 
--- a stack whose last mark is not cut is raised
-advanced-raised : (x : ℕ) (τ : List ℕ) → length τ < 240 → x ≤ 1 → advanced (stackOf (x ∷ τ)) ≡ raised (stackOf (x ∷ τ))
+-- a trail whose last mark is not cut has that advanced
+advanced-last :
+    (x : ℕ) (τ : List ℕ) → length τ < 240 → x ≤ 1 → advanced (trailOf (x ∷ τ)) ≡ trailOf (nextMark x (givesPart τ) ∷ τ)
 unfolding advanced
-advanced-raised x τ b h =
-    ap raised (uncut-done (stackOf (x ∷ τ) .len) (stackOf (x ∷ τ)) (omega (arith, last-is x 0 τ b)))
+advanced-last x τ b h =
+    ap lastAdvanced (uncut-done (trailOf (x ∷ τ) .len) (trailOf (x ∷ τ)) (omega (arith, last-is x 0 τ b)))
+    ∙ last-advanced-is x τ b
 
 -- a mark cut at the end goes
-advanced-dropped : (x : ℕ) (τ : List ℕ) → length τ < 240 → advanced (stackOf (suc (suc x) ∷ τ)) ≡ advanced (stackOf τ)
+advanced-dropped : (x : ℕ) (τ : List ℕ) → length τ < 240 → advanced (trailOf (suc (suc x) ∷ τ)) ≡ advanced (trailOf τ)
 unfolding advanced
 advanced-dropped x τ b =
-    ap raised (uncut-more (stackOf (suc (suc x) ∷ τ)) (omega (arith, last-is (suc (suc x)) 0 τ b)))
-    ∙ ap (λ (s : Stack). raised (uncut (s .len) s)) (dropped-is (suc (suc x)) τ b)
+    ap lastAdvanced (uncut-more (trailOf (suc (suc x) ∷ τ)) (omega (arith, last-is (suc (suc x)) 0 τ b)))
+    ∙ ap (λ (t : Trail). lastAdvanced (uncut (t .len) t)) (dropped-is (suc (suc x)) τ b)
 
--- an empty stack stays empty
-advanced-none : advanced (stackOf []) ≡ stackOf []
-unfolding advanced raised
+-- an empty trail stays empty
+advanced-none : advanced (trailOf []) ≡ trailOf []
+unfolding advanced lastAdvanced
 advanced-none =
-    ap raised (uncut-done (stackOf [] .len) (stackOf []) (omega (arith, last-none 0)))
-    ∙ replaced-none (nextMark (lastMark (stackOf []) 0) (givesPartIn (stackOf [] .marks) (topOf (stackOf [] .len))))
+    ap lastAdvanced (uncut-done (trailOf [] .len) (trailOf []) (omega (arith, last-none 0)))
+    ∙ replaced-none (nextMark (lastMark (trailOf []) 0) (partBefore (trailOf [])))
 
 -- advance
-pub advanced-is : (τ : List ℕ) → length τ ≤ 240 → advanced (stackOf τ) ≡ stackOf (advance τ)
+pub advanced-is : (τ : List ℕ) → length τ ≤ 240 → advanced (trailOf τ) ≡ trailOf (advance τ)
 unfolding advance afterZero oneAllowed
 advanced-is [] b = advanced-none
 advanced-is (zero ∷ τ) b =
-    advanced-raised 0 τ (omega arith) (omega arith)
-    ∙ raised-is 0 τ (omega arith)
-    ∙ ap (λ (y : ℕ). stackOf (y ∷ τ)) (next-after (givesPart τ))
+    advanced-last 0 τ (omega arith) (omega arith)
+    ∙ ap (λ (y : ℕ). trailOf (y ∷ τ)) (next-after (givesPart τ))
 advanced-is (suc zero ∷ τ) b =
-    advanced-raised 1 τ (omega arith) (omega arith)
-    ∙ raised-is 1 τ (omega arith)
-    ∙ ap (λ (y : ℕ). stackOf (y ∷ τ)) (next-cut (givesPart τ))
+    advanced-last 1 τ (omega arith) (omega arith)
+    ∙ ap (λ (y : ℕ). trailOf (y ∷ τ)) (next-cut (givesPart τ))
 advanced-is (suc (suc x) ∷ τ) b = advanced-dropped x τ (omega arith) ∙ advanced-is τ (omega arith)

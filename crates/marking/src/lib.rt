@@ -1,4 +1,3 @@
-// Markings in code: the order of lines, the trail, and the marks of lines.
+// Markings in code: the order of lines, and the marks of lines.
 pub mod marks;
 pub mod order;
-pub mod trail;

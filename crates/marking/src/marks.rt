@@ -8,7 +8,7 @@ ghost use lib.ListN.{getD, length};
 ghost use Rattle.marking.specs.Marks.{markBy, markFor};
 
 // The mark at a place, or 3, for no mark, past the last of so many marks.
-pub fn mark_of(place: u16, marks: &[u8; 240], len: usize) -> u8
+fn mark_of(place: u16, marks: &[u8; 240], len: usize) -> u8
     ensures { λ r. ⌜ r ≡ markBy (now (marks .entry)) len place ⌝ }
 {
     let at = wide16(place);

@@ -1,5 +1,6 @@
 // The types of the code, as document 01 names them. There are no functions here: crates above compute with these types, and
 // specs/ says what they must compute.
+use trail::Trail;
 
 // A part of a split: processor 0 or processor 1.
 pub enum Part {
@@ -43,12 +44,6 @@ pub enum Word {
 pub enum Verdict {
     Accepted,
     Refused(Word, u64),
-}
-
-// A marking in the order of lines: the mark of the line at place i is marks[i], for each i below len.
-pub struct Trail {
-    pub marks: [u8; 240],
-    pub len: usize,
 }
 
 // The running search: the record of the walk. Without `found` there is no best marking.

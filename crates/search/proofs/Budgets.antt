@@ -1,10 +1,8 @@
 -- Laws of a run by the verdict on its budget.
 -- Assumes nothing.
-use mathlib.Core.Bool.{Bool, true, false}
 use mathlib.Core.List.{List}
 use mathlib.Core.Path.{_≡_, refl, sym, _∙_, ap}
 use Prim.Native.Nat.{ℕ, _+_, _≤_, _<_}
-use native.Mathlib.Omega.{arith}
 use lib.Dec.{ltb}
 use borrow.Author.Tests.{lt-ltb, le-ltb, ltb-false}
 use Rattle.counting.specs.Tests.{_or_}
@@ -19,7 +17,6 @@ use Rattle.model.specs.declared.Ran.{Ran}
 use Rattle.model.specs.declared.Search.{Search}
 use Rattle.model.specs.Limits.{budgetLimit, triesLimit}
 use Rattle.model.specs.Pattern.{Pattern, patternOf}
-use Rattle.model.specs.Refusal.{refuse}
 use Rattle.model.specs.Walk.{Record, rulesOf, walk}
 use Rattle.model.specs.State.{recordOf, searchOf}
 use Rattle.model.specs.Calls.{ended, ranRecord, ranAfter}

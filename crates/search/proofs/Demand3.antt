@@ -1,13 +1,12 @@
 -- Demand 3, undivided: the claim of specs/Demand.antt holds for every pattern, cap and history.
 -- Assumes nothing.
-use mathlib.Core.Bool.{Bool, true, false, not}
+use mathlib.Core.Bool.{Bool, true, false}
 use mathlib.Core.List.{List}
 use mathlib.Core.Path.{_≡_, refl, sym, _∙_, ap, subst}
 use Prim.Native.Nat.{ℕ, _+_, _≤_}
 use native.Mathlib.Omega.{arith}
 use lib.Dec.{ltb}
 use borrow.Author.Tests.{ltb-false}
-use Rattle.counting.specs.Tests.{_or_}
 use Rattle.counting.proofs.Joined.{or-fails-right}
 use Rattle.model.specs.declared.Word.{Word}
 use Rattle.model.specs.declared.Word.the-variants.{Budget}
@@ -19,7 +18,6 @@ use Rattle.model.specs.declared.Ran.{Ran}
 use Rattle.model.specs.declared.RunAnswer.the-variants as run-answer
 use Rattle.model.specs.declared.ShowAnswer.{ShowAnswer}
 use Rattle.model.specs.Limits.{budgetLimit, triesLimit}
-use Rattle.model.specs.Refusal.{_then_}
 use Rattle.model.specs.Pattern.{Pattern, patternOf, lineTotal}
 use Rattle.model.specs.Walk.{Record, rulesOf, freshOf, walk, walked}
 use Rattle.model.specs.State.{recordOf, searchOf}

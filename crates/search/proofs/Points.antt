@@ -7,12 +7,10 @@ use Prim.Native.Nat.{ℕ, _+_, _*_, _≤_}
 use native.Mathlib.Omega.{arith}
 use lib.ListN.{length}
 use borrow.Author.Tests.{ltb-false}
-use Rattle.counting.specs.Tests.{_or_}
 use Rattle.model.specs.declared.Word.the-variants.{ShortBuffer}
 use Rattle.model.specs.declared.Verdict.the-variants.{Accepted}
 use Rattle.model.specs.declared.Search.{Search}
 use Rattle.model.specs.Limits.{lineLimit, triesLimit}
-use Rattle.model.specs.Refusal.{_then_}
 use Rattle.model.specs.Pattern.{Pattern, Inside, patternOf, lineTotal}
 use Rattle.model.specs.Split.{volume}
 use Rattle.model.specs.Walk.{Record, rulesOf, freshOf, walk, walked}

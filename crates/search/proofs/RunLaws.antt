@@ -1,19 +1,20 @@
 -- The tries of a run, one after another, are the walk's.
 -- Assumes nothing.
-use mathlib.Core.Bool.{Bool, true, false, not}
+use mathlib.Core.Bool.{false, not}
 use mathlib.Core.List.{List}
 use mathlib.Core.Logic.{_⊎_, inl, inr, ⊎-elim}
 use mathlib.Core.Path.{_≡_, refl, sym, _∙_, ap, subst}
-use Prim.Native.Nat.{ℕ, _+_, _≤_, _<_}
+use Prim.Native.Nat.{ℕ, _+_, _≤_}
 use lib.Dec.{ltb}
 use borrow.Author.Tests.{ltb-false, not-false}
 use Rattle.counting.specs.Tests.{_and_}
 use Rattle.counting.proofs.Joined.{and-cases}
 use Rattle.model.specs.declared.Search.{Search}
-use Rattle.model.specs.Pattern.{Pattern, patternOf, lineTotal}
+use Rattle.model.specs.Pattern.{patternOf}
 use Rattle.model.specs.Walk.{Record, Rules, rulesOf, tryOnce, walk}
 use Rattle.model.specs.State.{searchOf}
 use Rattle.state.specs.Ready.{Ready, Fits}
+use Rattle.state.proofs.Validities.{rules-k}
 use Rattle.search.proofs.Runs.{walk-fits, walk-more, walk-done, walk-cap, search-cap, search-complete}
 
 -- s is the search after so many tries from s₀
@@ -25,10 +26,6 @@ Walks m n nonzeros list places starts k s₀ i s =
 walk-none : (R : Rules) (r : Record) → walk R 0 r ≡ r
 unfolding walk
 walk-none R r = refl
-
-rules-k : (P : Pattern) (cap : ℕ) → rulesOf P cap .k ≡ lineTotal P
-unfolding rulesOf
-rules-k P cap = refl
 
 module _ (m n nonzeros : ℕ) (list places starts : List ℕ) (k : ℕ) (s₀ : Search) where
   -- before the first try

@@ -1,16 +1,15 @@
 -- Laws of a run: markings keep within their arrays, and so many tries lead to the walk's search.
 -- Assumes nothing.
-use mathlib.Core.Bool.{Bool, true, false}
-use mathlib.Core.List.{List, _∷_}
-use mathlib.Core.Logic.{_⊎_, inl, inr, ⊎-elim}
-use mathlib.Core.Option.{Option, some, none}
+use mathlib.Core.Bool.{true, false}
+use mathlib.Core.List.{List}
+use mathlib.Core.Logic.{_⊎_, inl, inr}
+use mathlib.Core.Option.{Option, some}
 use mathlib.Core.Path.{_≡_, refl, sym, _∙_, ap}
-use Prim.Native.Nat.{ℕ, zero, suc, _+_, _-_, _≤_, _<_}
+use Prim.Native.Nat.{ℕ, _+_, _-_, _≤_}
 use native.Mathlib.Numerals.{add-one}
 use native.Mathlib.Omega.{arith}
 use lib.ListN.{length}
-use Rattle.model.specs.declared.Search.{Search}
-use Rattle.model.specs.Walk.{Record, Rules, advance, tried, improved, tryOnce, step, walk}
+use Rattle.model.specs.Walk.{Record, Rules, tried, improved, tryOnce, walk}
 use Rattle.model.specs.State.{recordOf, searchOf}
 use Rattle.model.proofs.Walk.Steps.{try-keeps, step-tries, walk-keeps, walk-adds, complete-stays}
 use Rattle.model.proofs.Walk.Left.{advance-length}

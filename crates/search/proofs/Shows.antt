@@ -5,20 +5,17 @@ use mathlib.Core.List.{List, [], _∷_}
 use mathlib.Core.Option.{Option, some, none}
 use mathlib.Core.Path.{_≡_, refl, sym, _∙_, ap}
 use Prim.Native.Nat.{ℕ, _≤_, _<_}
-use native.Mathlib.Omega.{arith}
 use lib.Dec.{ltb}
 use lib.ListN.{length}
 use borrow.Author.Tests.{lt-ltb, le-ltb}
-use Rattle.counting.specs.Tests.{pick}
 use Rattle.counting.proofs.Joined.{pick-true, pick-false}
 use Rattle.model.specs.declared.Word.{Word}
-use Rattle.model.specs.declared.Word.the-variants.{ShortBuffer, State}
+use Rattle.model.specs.declared.Word.the-variants.{ShortBuffer}
 use Rattle.model.specs.declared.Verdict.{Verdict}
 use Rattle.model.specs.declared.Verdict.the-variants.{Accepted, Refused}
 use Rattle.model.specs.declared.ShowAnswer.{ShowAnswer}
 use Rattle.model.specs.declared.ShowAnswer.the-variants as show-answer
 use Rattle.model.specs.declared.Search.{Search}
-use Rattle.model.specs.declared.Trail.{Trail}
 use Rattle.model.specs.Pattern.{Pattern, patternOf}
 use Rattle.model.specs.Split.{volume}
 use Rattle.model.specs.Walk.{Record, Rules, rulesOf, beginningsLater, openMarkings, leastBound, floor}
@@ -27,7 +24,7 @@ use Rattle.model.specs.Calls.{listVerdict, showVerdict, shownFrom, shown, partB
 use Rattle.model.proofs.Theorems.Accepted.{refuse-so, refuse-no}
 use Rattle.state.specs.Ready.{Ready, Fits}
 use Rattle.state.proofs.Accepting.{ready-fits}
-use Rattle.state.proofs.Checks.{stateThen, then-later, then-unfit, then-unlisted}
+use Rattle.state.proofs.Checks.{stateThen, then-later}
 use Rattle.search.specs.Showing.{roomBy}
 
 -- the floor of a complete search, and of one that goes on

@@ -6,8 +6,8 @@ use Prim.Native.Nat.{ℕ, _+_, _≤_, _<_}
 use native.Mathlib.Omega.{arith}
 use lib.ListN.{length, getD}
 use Rattle.model.specs.declared.Part.the-variants.{Zero}
-use Rattle.model.specs.declared.Trail.{Trail}
-use Rattle.model.specs.Pattern.{Pattern, patternOf}
+use Rattle.trail.specs.declared.Trail.{Trail}
+use Rattle.model.specs.Pattern.{patternOf}
 use Rattle.model.specs.Split.{volume}
 use Rattle.model.specs.Marking.{marking, taken}
 use Rattle.model.specs.Walk.{shownSplit}

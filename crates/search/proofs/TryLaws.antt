@@ -1,9 +1,9 @@
 -- A try in code is the walk's try.
 -- Assumes nothing.
-use mathlib.Core.Bool.{Bool, true, false}
+use mathlib.Core.Bool.{Bool}
 use mathlib.Core.List.{List}
 use mathlib.Core.Path.{_≡_, refl, sym, _∙_, ap, subst}
-use Prim.Native.Nat.{ℕ, _≤_, _<_}
+use Prim.Native.Nat.{ℕ, _≤_}
 use native.Mathlib.Omega.{arith}
 use lib.Dec.{ltb}
 use lib.ListN.{length}
@@ -11,7 +11,7 @@ use borrow.Author.Tests.{ltb-true}
 use Rattle.counting.specs.Tests.{_and_}
 use Rattle.counting.proofs.Joined.{and-passed, and-fails-left, by-test}
 use Rattle.model.specs.declared.Search.{Search}
-use Rattle.model.specs.Pattern.{Pattern, patternOf, lineTotal}
+use Rattle.model.specs.Pattern.{Pattern, patternOf}
 use Rattle.model.specs.Marking.{Marking, marking, valid}
 use Rattle.model.specs.Bound.{bound}
 use Rattle.model.specs.Walk.{Record, rulesOf, stands, outcome, tryOnce}
@@ -21,6 +21,7 @@ use Rattle.bound.specs.Evaluated.{Listed, Placed, Evaluates}
 use Rattle.search.specs.Trying.{standsBy, outcomeBy}
 use Rattle.state.specs.Ready.{Ready, Fits}
 use Rattle.search.proofs.Tries.{outcome-is}
+use Rattle.search.proofs.Runs.{search-cap}
 
 -- an evaluated marking stands as the marking does
 pub stands-is :
@@ -69,10 +70,6 @@ try-of m n nonzeros list places starts k j res ready r f t =
     (λ (l : ℕ). searchOf (outcome (valid P (r .cap) (marking P (r .trail)) and ltb (bound P (r .cap) (marking P (r .trail))) (r .bestCount)) (ltb (length (r .trail)) l) r))
     (ready .total)
 
-cap-of : (r : Record) → searchOf r .cap ≡ r .cap
-unfolding searchOf
-cap-of r = refl
-
 pub try-is :
     (m n nonzeros : ℕ) (list places starts : List ℕ) (k : ℕ) (search : Search) (j : Evaluation) (res : Search) →
     Tried m n nonzeros list places starts k search j res →
@@ -80,4 +77,4 @@ pub try-is :
     res ≡ searchOf (tryOnce (rulesOf (patternOf m n nonzeros list) (search .cap)) r)
 try-is m n nonzeros list places starts k search j res t ready r e f =
     try-of m n nonzeros list places starts k j res ready r f (subst (λ (s : Search). Tried m n nonzeros list places starts k s j res) e t)
-    ∙ ap (λ (c : ℕ). searchOf (tryOnce (rulesOf (patternOf m n nonzeros list) c) r)) (sym (cap-of r) ∙ ap (λ (s : Search). s .cap) (sym e))
+    ∙ ap (λ (c : ℕ). searchOf (tryOnce (rulesOf (patternOf m n nonzeros list) c) r)) (sym (search-cap r) ∙ ap (λ (s : Search). s .cap) (sym e))

@@ -1,7 +1,7 @@
 -- The opening of demand 3: accepted exactly when, within document 01's limits, a split meets the cap, and refused under 12 exactly when,
 -- within them, none does. Refusal 12 is given only within the limits, since no check placed before it has its word.
 -- Assumes nothing.
-use mathlib.Core.Bool.{Bool, true, false, not}
+use mathlib.Core.Bool.{Bool, true, false}
 use mathlib.Core.List.{List}
 use mathlib.Core.Logic.{_↔_}
 use mathlib.Core.Path.{_≡_, refl, sym, _∙_, ap}

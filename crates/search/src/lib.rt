@@ -14,8 +14,8 @@ ghost use mathlib.Core.Path.{_≡_};
 ghost use Rattle.model.specs.Refusal.{verdictReply};
 ghost use Rattle.model.specs.Calls.{openCall, runCall, showCall, showParts, runReply, showReply, openReplies, runReplies, showReplies};
 
-pub mod presenting;
-pub mod trying;
+mod presenting;
+mod trying;
 
 // Opens a search of a pattern under a cap.
 pub fn open(m: u64, n: u64, nonzeros: u64, list: &[u8], cap: u64) -> Opened

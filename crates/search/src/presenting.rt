@@ -1,5 +1,4 @@
 // A showing: the split in the lent parts, its volume, and the floor.
-use crate::trying::stack_of;
 use bound::evaluating::evaluate_lines;
 use bound::evaluating::marks_of;
 use bound::tables::places;
@@ -7,7 +6,6 @@ use flooring::least::least_open;
 use matching::starts::row_starts;
 use model::Search;
 use model::ShowAnswer;
-use model::Trail;
 use model::Verdict;
 use model::Word;
 use pattern::checks::list_verdict;
@@ -17,6 +15,7 @@ use showing::write_split;
 use state::checking::state_fine;
 use state::holding::cleared;
 use state::lines::line_total;
+use trail::Trail;
 ghost use mathlib.Core.Path.{_≡_};
 ghost use Prim.Native.Nat.{_≤_};
 ghost use lib.ListN.{length};
@@ -31,7 +30,7 @@ ghost use Rattle.state.specs.Ready.{Fits, Ready};
 ghost use Rattle.search.specs.Showing.{roomBy};
 
 // The floor of a search.
-pub fn floor_of(
+fn floor_of(
     search: Search,
     m: u8,
     n: u8,
@@ -48,7 +47,7 @@ pub fn floor_of(
     if search.complete {
         return best;
     }
-    let trail = stack_of(cleared(search.trail));
+    let trail = cleared(search.trail);
     least_open(
         m,
         n,
@@ -63,7 +62,7 @@ pub fn floor_of(
 }
 
 // Writes the split that a marking shows to the parts, and gives its volume.
-pub fn show_split(
+fn show_split(
     best: Trail,
     m: u8,
     n: u8,
@@ -91,7 +90,7 @@ pub fn show_split(
 }
 
 // A showing of a state that is not refused.
-pub fn show_fine(
+fn show_fine(
     search: Search,
     m: u8,
     n: u8,
@@ -166,7 +165,7 @@ fn show_listed(
 }
 
 // A showing on any list.
-pub fn show_search(
+pub(crate) fn show_search(
     search: Search,
     m: u64,
     n: u64,

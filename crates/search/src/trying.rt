@@ -1,11 +1,10 @@
 // One try on the struct of a search.
 use bound::Evaluation;
 use bound::evaluating::evaluate;
-use marking::trail::Stack;
 use model::Search;
-use model::Trail;
 use pattern::reading::wide16;
 use state::legal::cuts_before;
+use trail::Trail;
 ghost use mathlib.Core.Path.{_≡_};
 ghost use Prim.Native.Nat.{_+_, _<_};
 ghost use lib.Dec.{ltb};
@@ -14,38 +13,15 @@ ghost use Rattle.model.specs.Pattern.{patternOf};
 ghost use Rattle.model.specs.Walk.{Record, rulesOf, tryOnce};
 ghost use Rattle.model.specs.State.{searchOf};
 ghost use Rattle.state.specs.Ready.{Fits, Ready};
-ghost use Rattle.search.specs.Trying.{stackIn, trailBack, standsBy, triedBy, improvedBy, outcomeBy};
+ghost use Rattle.search.specs.Trying.{standsBy, triedTo, improvedBy, outcomeBy};
 
-pub mod running;
+pub(crate) mod running;
 
-// A trail as a stack.
-pub fn stack_of(trail: Trail) -> Stack
-    ensures { λ r. ⌜ r ≡ stackIn trail ⌝ }
-{
-    let marks = trail.marks;
-    Stack {
-        marks,
-        len: trail.len,
-    }
-}
-
-// A stack as a trail.
-pub fn trail_of(stack: Stack) -> Trail
-    ensures { λ r. ⌜ r ≡ trailBack stack ⌝ }
-{
-    let marks = stack.marks;
-    Trail {
-        marks,
-        len: stack.len,
-    }
-}
-
-// One try more, after which this stack is the trail.
-fn tried(mut search: Search, stack: Stack) -> Search
+// One try more, after which this is the trail.
+fn tried(mut search: Search, trail: Trail) -> Search
     requires { ⌜ search .tries < triesLimit ⌝ }
-    ensures { λ r. ⌜ r ≡ triedBy search stack ⌝ }
+    ensures { λ r. ⌜ r ≡ triedTo search trail ⌝ }
 {
-    let trail = trail_of(stack);
     search.complete = trail.len == 0;
     search.trail = trail;
     let tries = search.tries;
@@ -54,7 +30,7 @@ fn tried(mut search: Search, stack: Stack) -> Search
 }
 
 // The trail becomes the best marking, and its cut lines the best count.
-pub fn improved(mut search: Search) -> Search
+fn improved(mut search: Search) -> Search
     ensures { λ r. ⌜ r ≡ improvedBy search ⌝ }
 {
     let trail = search.trail;
@@ -71,20 +47,20 @@ fn outcome(search: Search, stands: bool, k: usize) -> Search
     requires { ⌜ search .tries < triesLimit ⌝ }
     ensures { λ r. ⌜ r ≡ outcomeBy stands (ltb (search .trail .len) k) search ⌝ }
 {
-    let stack = stack_of(search.trail);
-    let shorter = stack.len < k;
+    let trail = search.trail;
+    let shorter = trail.len < k;
     if stands {
         if shorter {
-            return tried(search, stack.append(0));
+            return tried(search, trail.append(0));
         }
         let better = improved(search);
-        return tried(better, stack.advance());
+        return tried(better, trail.advance());
     }
-    tried(search, stack.advance())
+    tried(search, trail.advance())
 }
 
 // The trail stands: it is valid and its bound is below the best count.
-pub fn judged_stands(judged: Evaluation, best: u64) -> bool
+fn judged_stands(judged: Evaluation, best: u64) -> bool
     ensures { λ r. ⌜ r ≡ standsBy judged best ⌝ }
 {
     if judged.valid {

@@ -1,8 +1,8 @@
 // Whether two searches are the same, byte for byte.
 use crate::saying::put;
 use model::Search;
-use model::Trail;
 use pattern::reading::byte_at;
+use trail::Trail;
 
 // Two slices hold the same bytes.
 fn same_bytes(a: &[u8], b: &[u8]) -> bool {

@@ -1,6 +1,6 @@
 // Patterns and markings that are given by letters.
-use model::Trail;
 use pattern::reading::byte_at;
+use trail::Trail;
 
 // A pattern and a cap, as an opening is given them.
 pub struct Given {

@@ -3,11 +3,11 @@ use crate::given::Given;
 use model::RunAnswer;
 use model::Search;
 use model::ShowAnswer;
-use model::Trail;
 use model::Verdict;
 use model::Word;
 use pattern::reading::byte_at;
 use pattern::refusals::refusal_number;
+use trail::Trail;
 
 // A word and a number.
 pub(crate) fn say(word: &[u8], x: u64) {

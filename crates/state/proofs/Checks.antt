@@ -1,8 +1,8 @@
 -- The checks of a list and of a state, before any later check: what they come to where nothing is refused, and where one refuses.
 -- Assumes nothing.
-use mathlib.Core.Bool.{Bool, true, false, not}
+use mathlib.Core.Bool.{true, false, not}
 use mathlib.Core.List.{List}
-use mathlib.Core.Path.{_≡_, sym, _∙_, ap}
+use mathlib.Core.Path.{_≡_, ap}
 use Prim.Native.Nat.{ℕ}
 use Rattle.model.specs.declared.Word.{Word}
 use Rattle.model.specs.declared.Word.the-variants.{State}

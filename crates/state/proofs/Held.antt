@@ -1,24 +1,20 @@
 -- A search holds a record and gives it back: the record read off the search of a record is that record.
 -- Assumes nothing.
-use mathlib.Core.Bool.{Bool, true, false}
-use mathlib.Core.List.{List, []}
+use mathlib.Core.List.{List}
 use mathlib.Core.Option.{Option, some, none}
-use mathlib.Core.Path.{_≡_, refl, sym, _∙_, ap}
-use Prim.Native.Nat.{ℕ, zero, suc, _+_, _*_, _≤_}
+use mathlib.Core.Path.{_≡_, refl, ap}
+use Prim.Native.Nat.{ℕ, _*_, _≤_}
 use native.Mathlib.Omega.{arith}
 use lib.ListN.{length}
 use Rattle.counting.proofs.Counted.{count-most}
-use Rattle.model.specs.declared.Search.{Search}
 use Rattle.model.specs.Limits.{lineLimit}
 use Rattle.model.specs.Pattern.{Pattern, lines, nonempty, lineTotal}
-use Rattle.model.specs.Walk.{Record, Rules, rulesOf, freshOf, walked}
-use Rattle.model.specs.State.{stack, marksIn, bestIn, recordOf, trailOf, isFound, bestOr, searchOf}
+use Rattle.model.specs.Walk.{Record}
+use Rattle.model.specs.State.{marksIn, bestIn, recordOf, trailOf, isFound, bestOr, searchOf}
 use Rattle.model.proofs.State.Arrays.{array-stack}
-use Rattle.model.proofs.Walk.Legal.{Orderly, BestIs, walk-orderly}
-use Rattle.model.proofs.Walk.Sound.{Sound, empty-valid}
 
 -- a marking in an array reads back
-marks-back : (τ : List ℕ) → length τ ≤ 2 * lineLimit → marksIn (trailOf τ) ≡ τ
+pub marks-back : (τ : List ℕ) → length τ ≤ 2 * lineLimit → marksIn (trailOf τ) ≡ τ
 unfolding marksIn trailOf
 marks-back τ h = array-stack τ h
 

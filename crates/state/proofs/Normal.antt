@@ -1,14 +1,12 @@
 -- A cleared search is the search of its record, where its markings fit their arrays.
 -- Assumes nothing.
 use mathlib.Core.Bool.{Bool, true, false}
-use mathlib.Core.List.{List, []}
-use mathlib.Core.Option.{Option, some, none}
-use mathlib.Core.Path.{_≡_, refl, sym, _∙_, ap}
-use Prim.Native.Nat.{ℕ, _≤_}
+use mathlib.Core.List.{[]}
+use mathlib.Core.Path.{_≡_, refl, sym, _∙_}
+use Prim.Native.Nat.{_≤_}
 use borrow.Author.Tests.{le-ltb}
-use Rattle.counting.specs.Tests.{pick}
-use Rattle.counting.proofs.Joined.{clash, pick-true, pick-false}
-use Rattle.model.specs.declared.Trail.{Trail}
+use Rattle.counting.proofs.Joined.{pick-true, pick-false}
+use Rattle.trail.specs.declared.Trail.{Trail}
 use Rattle.model.specs.declared.Search.{Search}
 use Rattle.model.specs.State.{marksIn, trailOf, bestIn, isFound, bestOr, recordOf, searchOf}
 use Rattle.state.specs.Holding.{clearedTo, bestTo, normalOf}

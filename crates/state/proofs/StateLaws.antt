@@ -2,54 +2,48 @@
 -- Assumes nothing.
 use mathlib.Core.Bool.{Bool, true, false, not}
 use mathlib.Core.List.{List, [], _∷_}
-use mathlib.Core.Option.{Option, some, none}
+use mathlib.Core.Option.{some}
 use mathlib.Core.Path.{_≡_, refl, sym, _∙_, ap}
-use Prim.Native.Nat.{ℕ, zero, suc, _+_, _*_, _-_, _≤_, _<_}
+use Prim.Native.Nat.{ℕ, zero, suc, _+_, _*_, _-_, _≤_}
 use native.Mathlib.Omega.{arith}
-use lib.Dec.{eqb, ltb, leb}
+use lib.Dec.{eqb, leb}
 use lib.ListN.{length, getD}
-use borrow.Author.Tests.{eq-eqb, ne-eqb, le-leb, eqb-true, leb-true, lt-ltb, not-true}
+use borrow.Author.Tests.{eq-eqb, ne-eqb, eqb-true, leb-true, not-true}
 use Rattle.counting.specs.Tests.{_and_, pick}
-use Rattle.counting.proofs.Joined.{no-way, clash, both-ways, fails, and-intro, and-left, and-right, pick-true, pick-false}
-use Rattle.model.specs.declared.Trail.{Trail}
+use Rattle.counting.proofs.Joined.{no-way, clash, and-left, and-right, pick-true, pick-false}
+use Rattle.trail.specs.declared.Trail.{Trail}
+use Rattle.trail.specs.Trail.{markOr}
 use Rattle.model.specs.declared.Search.{Search}
 use Rattle.model.specs.Limits.{capLimit, triesLimit}
-use Rattle.model.specs.Walk.{Record, Rules, cuts, isEmpty}
+use Rattle.model.specs.Walk.{Rules, cuts, isEmpty}
 use Rattle.model.specs.State.{stack, marksIn, bestIn, recordOf, areMarks, startsWithZero, beginningsValid, trailFine, bestFine, stateFine}
-use Rattle.model.proofs.Order.Mirrored.{stack-eq}
 use Rattle.model.proofs.Order.SplitMarks.{stack-length}
-use Rattle.marking.specs.Stack.{cell}
-use Rattle.state.specs.Legal.{cutsIn}
-use Rattle.state.specs.Legal.{marksLegal, zeroFirst}
+use Rattle.marking.proofs.Trails.{marks-before}
+use Rattle.state.specs.Legal.{marksLegal, zeroFirst, cutsIn}
 use Rattle.state.specs.StateBy.{trailBy, fullBy, bestBy, numbersBy}
 
 -- the marks of an array before an index that it has
-cells-are : (trail : Trail) → trail .len ≤ 240 → stack (cell (trail .marks)) (trail .len) ≡ marksIn trail
-unfolding marksIn cell
-cells-are trail b =
-    stack-eq
-    (cell (trail .marks))
-    (λ i. getD (trail .marks) i 0)
-    (trail .len)
-    (λ i c. pick-true (getD (trail .marks) i 0) 0 (lt-ltb i 240 (omega arith)))
+marks-are : (trail : Trail) → trail .len ≤ 240 → stack (markOr 0 (trail .marks)) (trail .len) ≡ marksIn trail
+unfolding marksIn
+marks-are trail b = marks-before (trail .marks) (trail .len) b
 
 legal-is : (trail : Trail) → trail .len ≤ 240 → marksLegal (trail .marks) (trail .len) ≡ areMarks (marksIn trail)
 unfolding marksLegal
-legal-is trail b = ap areMarks (cells-are trail b)
+legal-is trail b = ap areMarks (marks-are trail b)
 
 zero-is : (trail : Trail) → trail .len ≤ 240 → zeroFirst (trail .marks) (trail .len) ≡ startsWithZero (marksIn trail)
 unfolding zeroFirst
-zero-is trail b = ap startsWithZero (cells-are trail b)
+zero-is trail b = ap startsWithZero (marks-are trail b)
 
-cuts-is : (trail : Trail) → trail .len ≤ 240 → cutsIn (trail .marks) (trail .len) ≡ cuts (marksIn trail)
+pub cuts-is : (trail : Trail) → trail .len ≤ 240 → cutsIn (trail .marks) (trail .len) ≡ cuts (marksIn trail)
 unfolding cutsIn
-cuts-is trail b = ap cuts (cells-are trail b)
+cuts-is trail b = ap cuts (marks-are trail b)
 
 pub marks-length : (trail : Trail) → length (marksIn trail) ≡ trail .len
 unfolding marksIn
 marks-length trail = stack-length (λ i. getD (trail .marks) i 0) (trail .len)
 
-empty-is : (τ : List ℕ) → isEmpty τ ≡ eqb (length τ) 0
+pub empty-is : (τ : List ℕ) → isEmpty τ ≡ eqb (length τ) 0
 unfolding isEmpty
 empty-is [] = refl
 empty-is (x ∷ τ) = sym (ne-eqb (length (x ∷ τ)) 0 (λ e. no-way (omega arith)))
@@ -96,10 +90,6 @@ moved :
 unfolding _and_
 moved true v l z v′ l′ z′ h = let e = h refl in rw (e .0, e .1, e .2) (turned v′ l′ z′)
 moved false v l z v′ l′ z′ h = refl
-
--- the trail's longest proper beginning
-unfoldable pub beginningIn : Trail → List ℕ
-beginningIn trail = stack (λ i. getD (trail .marks) i 0) (trail .len - 1)
 
 -- an empty trail exactly if complete; else as asked, where its longest proper beginning says whether all are valid
 pub trail-is :

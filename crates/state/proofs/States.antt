@@ -1,19 +1,13 @@
 -- Laws of the state check on the struct of a search.
 -- Assumes nothing.
-use mathlib.Core.Bool.{Bool, true, false, not}
-use mathlib.Core.List.{List, [], _∷_}
-use mathlib.Core.Option.{Option, some, none}
-use mathlib.Core.Path.{_≡_, refl, sym, _∙_, ap}
-use Prim.Native.Nat.{ℕ, zero, suc, _+_, _*_, _≤_, _<_}
-use native.Mathlib.Omega.{arith}
-use lib.Dec.{eqb, ltb, leb}
-use lib.ListN.{length, getD}
+use mathlib.Core.Path.{_≡_, sym}
+use Prim.Native.Nat.{ℕ, _*_, _≤_}
+use lib.Dec.{leb}
 use borrow.Author.Tests.{eq-eqb, le-leb}
-use Rattle.counting.specs.Tests.{_and_}
 use Rattle.counting.proofs.Joined.{and-intro, and-passed}
 use Rattle.model.specs.declared.Search.{Search}
 use Rattle.model.specs.Limits.{capLimit, triesLimit}
-use Rattle.state.specs.StateBy.{trailBy, fullBy, bestBy, numbersBy}
+use Rattle.state.specs.StateBy.{numbersBy}
 
 -- the last of the tests of numbers
 pub numbers-last :

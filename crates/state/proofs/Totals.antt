@@ -5,7 +5,7 @@ use mathlib.Core.Path.{_≡_, sym, _∙_, ap}
 use Prim.Native.Nat.{ℕ, _+_, _≤_, _<_}
 use native.Mathlib.Omega.{arith}
 use lib.ListN.{getD}
-use Rattle.model.specs.Pattern.{patternOf, lines, lineCount, lineTotal}
+use Rattle.model.specs.Pattern.{patternOf, lineCount, lineTotal}
 use Rattle.marking.specs.Order.{totalBy}
 use Rattle.marking.proofs.Ordered.{lines-of, lines-small, total-is}
 

@@ -1,26 +1,28 @@
 -- Which markings of a search are valid: a trail's proper beginnings by its longest, and a trail by its cleared marks.
 -- Assumes nothing.
-use mathlib.Core.Bool.{Bool, true, false}
+use mathlib.Core.Bool.{Bool, true}
 use mathlib.Core.List.{List, [], _∷_}
 use mathlib.Core.Path.{_≡_, refl, sym, _∙_, ap}
-use Prim.Native.Nat.{ℕ, zero, suc, _-_, _≤_}
+use Prim.Native.Nat.{ℕ, suc, _-_, _≤_, _<_}
 use native.Mathlib.Omega.{arith}
 use lib.ListN.{length, getD}
 use Rattle.counting.specs.Tests.{_and_}
-use Rattle.counting.proofs.Joined.{by-test, both-ways, and-intro, and-left, and-right}
-use Rattle.model.specs.declared.Trail.{Trail}
+use Rattle.counting.proofs.Joined.{both-ways, and-intro, and-left}
+use Rattle.trail.specs.declared.Trail.{Trail}
+use Rattle.trail.specs.Trail.{dropped}
+use Rattle.trail.proofs.Methods.{dropped-length}
 use Rattle.model.specs.declared.Search.{Search}
 use Rattle.model.specs.Pattern.{Pattern, Inside, patternOf, lineTotal}
 use Rattle.model.specs.Marking.{marking, valid}
-use Rattle.model.specs.Walk.{Rules, rulesOf}
-use Rattle.model.specs.State.{stack, marksIn, bestIn, recordOf, arrayOf, trailOf, beginningsValid, trailFine, bestFine, stateFine}
-use Rattle.model.proofs.Walk.Sound.{Begins, whole, longer}
+use Rattle.model.specs.Walk.{rulesOf}
+use Rattle.model.specs.State.{marksIn, bestIn, recordOf, arrayOf, trailOf, beginningsValid, trailFine, bestFine, stateFine}
+use Rattle.model.proofs.Walk.Sound.{whole, longer}
 use Rattle.model.proofs.Bound.Extended.{valid-begins}
 use Rattle.model.proofs.Order.Marks.{begins-extends}
+use Rattle.marking.proofs.Trails.{marks-dropped}
 use Rattle.bound.specs.declared.Evaluation.{Evaluation}
 use Rattle.bound.specs.Evaluated.{Listed, Placed, Evaluates}
 use Rattle.state.specs.Holding.{clearedTo}
-use Rattle.state.specs.StateBy.{shorter}
 use Rattle.state.specs.StateBy.{trailBy, bestBy, numbersBy}
 use Rattle.state.specs.Ready.{Ready}
 use Rattle.state.proofs.Normal.{cleared-is}
@@ -49,22 +51,15 @@ longest-speaks P cap x τ i =
     (λ h. and-intro h (all-valid P cap τ i h))
     (λ h. and-left (rulesOf P cap .valid τ) (beginningsValid (rulesOf P cap) τ) h)
 
--- the marks of a trail and of the one without its last mark
-marks-shorter :
-    (trail : Trail) → 1 ≤ trail .len → marksIn trail ≡ getD (trail .marks) (trail .len - 1) 0 ∷ marksIn (shorter trail)
-unfolding marksIn shorter stack
-marks-shorter trail h =
-    let e : trail .len ≡ suc (trail .len - 1) = omega arith in
-    ap (stack (λ i. getD (trail .marks) i 0)) e
-
+-- of a trail too, without its last mark
 pub trail-speaks :
-    (P : Pattern) (cap : ℕ) (trail : Trail) (v : Bool) → Inside P → 1 ≤ trail .len →
-    v ≡ valid P cap (marking P (marksIn (shorter trail))) → v ≡ beginningsValid (rulesOf P cap) (marksIn trail)
+    (P : Pattern) (cap : ℕ) (trail : Trail) (d : ℕ) (v : Bool) → Inside P → trail .len ≡ suc d → d < 240 →
+    v ≡ valid P cap (marking P (marksIn (dropped trail))) → v ≡ beginningsValid (rulesOf P cap) (marksIn trail)
 unfolding rulesOf
-trail-speaks P cap trail v i h e =
+trail-speaks P cap trail d v i long b e =
     e
-    ∙ longest-speaks P cap (getD (trail .marks) (trail .len - 1) 0) (marksIn (shorter trail)) i
-    ∙ ap (beginningsValid (rulesOf P cap)) (sym (marks-shorter trail h))
+    ∙ longest-speaks P cap (getD (trail .marks) d 0) (marksIn (dropped trail)) i
+    ∙ ap (beginningsValid (rulesOf P cap)) (sym (marks-dropped trail d long b))
 
 -- the evaluation of a cleared trail
 pub valid-cleared :
@@ -87,7 +82,7 @@ valid-cleared m n nonzeros list places starts cap trail kept j e judged listed p
     (ap (λ (t : Trail). t .len) d)
     .valid-is
 
-rules-k : (P : Pattern) (cap : ℕ) → rulesOf P cap .k ≡ lineTotal P
+pub rules-k : (P : Pattern) (cap : ℕ) → rulesOf P cap .k ≡ lineTotal P
 unfolding rulesOf
 rules-k P cap = refl
 
@@ -95,13 +90,9 @@ rules-valid : (P : Pattern) (cap : ℕ) (τ : List ℕ) → valid P cap (marking
 unfolding rulesOf
 rules-valid P cap τ = refl
 
-shorter-len : (trail : Trail) → shorter trail .len ≡ trail .len - 1
-unfolding shorter
-shorter-len trail = refl
-
 -- what the code has of a state check
 pub record Checked (m n nonzeros : ℕ) (list places starts : List ℕ) (k : ℕ) (s : Search) (beginning : Trail) (begins full numbers trail best : Bool) : Type 0 where
-  pub short : beginning ≡ shorter (s .trail)
+  pub short : beginning ≡ dropped (s .trail)
   pub begins-is :
       Listed m n nonzeros list starts → Placed (patternOf m n nonzeros list) places → beginning .len ≤ 240 →
       begins ≡ valid (patternOf m n nonzeros list) (s .cap) (marking (patternOf m n nonzeros list) (marksIn beginning))
@@ -131,9 +122,6 @@ checked-is m n nonzeros list places starts k s beginning begins full numbers tra
     few : rulesOf P (s .cap) .k ≤ 240
     few = omega (arith, k-is, ready .few)
 
-    shorter-length : beginning .len ≡ s .trail .len - 1
-    shorter-length = ap (λ (t : Trail). t .len) (c .short) ∙ shorter-len (s .trail)
-
     trail-fine : trail ≡ trailFine (rulesOf P (s .cap)) (s .complete) (marksIn (s .trail))
     trail-fine =
         c .trail-test
@@ -144,14 +132,20 @@ checked-is m n nonzeros list places starts k s beginning begins full numbers tra
         (s .trail)
         begins
         few
-        (λ some short. trail-speaks
+        (λ some short.
+        let d = s .trail .len - 1 in
+        let long : s .trail .len ≡ suc d = omega arith in
+        let inside : d < 240 = omega (arith, few) in
+        trail-speaks
         P
         (s .cap)
         (s .trail)
+        d
         begins
         (ready .listed .inside)
-        some
-        (c .begins-is (ready .listed) (ready .placed) (omega (arith, shorter-length, few))
+        long
+        inside
+        (c .begins-is (ready .listed) (ready .placed) (omega (arith, ap (λ (t : Trail). t .len) (c .short), dropped-length (s .trail) d long inside))
         ∙ ap (λ (t : Trail). valid P (s .cap) (marking P (marksIn t))) (c .short)))
 
     best-fine : best ≡ bestFine (rulesOf P (s .cap)) (bestIn (s .found) (s .best)) (s .«best_count») (s .complete)

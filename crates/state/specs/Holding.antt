@@ -2,10 +2,9 @@
 -- Assumes nothing.
 use mathlib.Core.Bool.{Bool}
 use mathlib.Core.List.{[]}
-use Prim.Native.Nat.{ℕ}
 use lib.Dec.{ltb}
 use Rattle.counting.specs.Tests.{pick}
-use Rattle.model.specs.declared.Trail.{Trail}
+use Rattle.trail.specs.declared.Trail.{Trail}
 use Rattle.model.specs.declared.Search.{Search}
 use Rattle.model.specs.State.{marksIn, trailOf}
 

@@ -5,13 +5,13 @@ use mathlib.Core.List.{List}
 use Prim.Native.Nat.{ℕ}
 use lib.Dec.{eqb}
 use Rattle.counting.specs.Tests.{_and_}
+use Rattle.trail.specs.Trail.{markOr}
 use Rattle.model.specs.Walk.{cuts}
 use Rattle.model.specs.State.{stack, areMarks, startsWithZero}
-use Rattle.marking.specs.Stack.{cell}
 
 -- each is 0, 1 or cut
 unfoldable pub marksLegal : List ℕ → ℕ → Bool
-marksLegal marks end = areMarks (stack (cell marks) end)
+marksLegal marks end = areMarks (stack (markOr 0 marks) end)
 
 -- mark 1 stands where no earlier mark is 0 or 1
 unfoldable pub oneDenied : ℕ → Bool → Bool
@@ -19,8 +19,8 @@ oneDenied mark part = not part and eqb mark 1
 
 -- the first other than cut is 0
 unfoldable pub zeroFirst : List ℕ → ℕ → Bool
-zeroFirst marks end = startsWithZero (stack (cell marks) end)
+zeroFirst marks end = startsWithZero (stack (markOr 0 marks) end)
 
 -- the number of marks cut before an index
 unfoldable pub cutsIn : List ℕ → ℕ → ℕ
-cutsIn marks end = cuts (stack (cell marks) end)
+cutsIn marks end = cuts (stack (markOr 0 marks) end)

@@ -1,17 +1,13 @@
 -- The state check on the struct of a search, by the validity of its markings.
 -- Assumes nothing.
 use mathlib.Core.Bool.{Bool, true, false, not}
-use Prim.Native.Nat.{ℕ, _+_, _-_, _*_}
-use lib.Dec.{eqb, ltb, leb}
+use Prim.Native.Nat.{ℕ, _+_, _*_}
+use lib.Dec.{eqb, leb}
 use Rattle.counting.specs.Tests.{_and_, pick}
-use Rattle.model.specs.declared.Trail.{Trail}
+use Rattle.trail.specs.declared.Trail.{Trail}
 use Rattle.model.specs.declared.Search.{Search}
 use Rattle.model.specs.Limits.{capLimit, triesLimit}
 use Rattle.state.specs.Legal.{marksLegal, zeroFirst, cutsIn}
-
--- a trail without its last mark
-unfoldable pub shorter : Trail → Trail
-shorter trail = record { marks = trail .marks; len = trail .len - 1 }
 
 -- the trail, where its longest proper beginning is valid or not
 unfoldable pub trailBy : Bool → Trail → ℕ → Bool → Bool

@@ -5,8 +5,8 @@ use crate::fine::trail_fine;
 use crate::holding::cleared;
 use bound::evaluating::evaluate;
 use model::Search;
-use model::Trail;
 use pattern::reading::wide16;
+use trail::Trail;
 use weighing::cells::both_of;
 ghost use mathlib.Core.Path.{_≡_};
 ghost use Prim.Native.Nat.{_≤_};
@@ -16,22 +16,6 @@ ghost use Rattle.model.specs.Marking.{marking, valid};
 ghost use Rattle.model.specs.State.{marksIn, recordOf, stateFine};
 ghost use Rattle.bound.specs.Evaluated.{Listed, Placed};
 ghost use Rattle.state.specs.Ready.{Ready};
-ghost use Rattle.state.specs.StateBy.{shorter};
-
-// The trail without its last mark: its longest proper beginning.
-pub fn shortened(trail: Trail) -> Trail
-    ensures { λ r. ⌜ r ≡ shorter trail ⌝ }
-{
-    let marks = trail.marks;
-    let len = trail.len;
-    if 0 < len {
-        return Trail {
-            marks,
-            len: len - 1,
-        };
-    }
-    Trail { marks, len }
-}
 
 // The marking that a trail holds is valid.
 fn valid_of(
@@ -70,11 +54,12 @@ pub fn state_fine(
         v ≡ stateFine (rulesOf (patternOf m n nonzeros (now (list .entry))) (search .cap)) m n nonzeros (recordOf search)) ⌝ }
 {
     let cap = search.cap;
-    let beginning = shortened(search.trail);
+    let whole = search.trail;
+    let beginning = whole.drop();
     let begins = valid_of(beginning, m, n, nonzeros, list, cap, places, starts);
     let full = valid_of(search.best, m, n, nonzeros, list, cap, places, starts);
     let numbers = numbers_fine(search, m as u64, n as u64, nonzeros as u64);
-    let trail = trail_fine(search.trail, search.complete, wide16(k), begins);
+    let trail = trail_fine(whole, search.complete, wide16(k), begins);
     let best = best_fine(search, k, full);
     both_of(both_of(numbers, trail), best)
 }

@@ -3,12 +3,12 @@ use crate::legal::are_marks;
 use crate::legal::cuts_before;
 use crate::legal::starts_with_zero;
 use model::Search;
-use model::Trail;
+use trail::Trail;
 ghost use mathlib.Core.Path.{_≡_};
 ghost use Rattle.state.specs.StateBy.{trailBy, fullBy, bestBy, numbersBy};
 
 // The trail is empty if the search is complete; else it has 1 to k legal marks, and its longest proper beginning is valid.
-pub fn trail_fine(trail: Trail, complete: bool, k: usize, valid: bool) -> bool
+pub(crate) fn trail_fine(trail: Trail, complete: bool, k: usize, valid: bool) -> bool
     ensures { λ r. ⌜ r ≡ trailBy complete trail k valid ⌝ }
 {
     let len = trail.len;
@@ -31,7 +31,7 @@ pub fn trail_fine(trail: Trail, complete: bool, k: usize, valid: bool) -> bool
 }
 
 // A best marking is full, valid and legal, and has best count cut lines.
-pub fn full_fine(best: Trail, k: usize, valid: bool, count: u64) -> bool
+fn full_fine(best: Trail, k: usize, valid: bool, count: u64) -> bool
     ensures { λ r. ⌜ r ≡ fullBy best k valid count ⌝ }
 {
     let len = best.len;
@@ -48,7 +48,7 @@ pub fn full_fine(best: Trail, k: usize, valid: bool, count: u64) -> bool
 }
 
 // A best marking as it should be; without one the best count is k + 1 and the search not complete.
-pub fn best_fine(search: Search, k: u16, valid: bool) -> bool
+pub(crate) fn best_fine(search: Search, k: u16, valid: bool) -> bool
     ensures { λ r. ⌜ r ≡ bestBy search k valid ⌝ }
 {
     let count = search.best_count;
@@ -62,7 +62,7 @@ pub fn best_fine(search: Search, k: u16, valid: bool) -> bool
 }
 
 // The numbers of a state: m, n and N are the list's, N is at most 2 × cap, and cap and tries are in range.
-pub fn numbers_fine(search: Search, m: u64, n: u64, nonzeros: u64) -> bool
+pub(crate) fn numbers_fine(search: Search, m: u64, n: u64, nonzeros: u64) -> bool
     ensures { λ r. ⌜ r ≡ numbersBy search m n nonzeros ⌝ }
 {
     let rows = search.m;

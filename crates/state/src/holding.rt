@@ -1,7 +1,7 @@
 // The record of a search in its struct: fresh, and with 0 in every mark past a marking's length.
 use model::Search;
-use model::Trail;
 use pattern::reading::long16;
+use trail::Trail;
 ghost use mathlib.Core.Path.{_≡_};
 ghost use mathlib.Core.List.{[], _∷_};
 ghost use Prim.Native.Nat.{suc};
@@ -11,14 +11,14 @@ ghost use Rattle.model.specs.Calls.{completeNumber, noRecord};
 ghost use Rattle.state.specs.Holding.{clearedTo, bestTo, normalOf};
 
 // No marks.
-pub fn no_marks() -> [u8; 240]
+fn no_marks() -> [u8; 240]
     ensures { λ r. ⌜ r ≡ arrayOf [] ⌝ }
 {
     [0u8; 240]
 }
 
 // No marking.
-pub fn no_trail() -> Trail
+fn no_trail() -> Trail
     ensures { λ r. ⌜ r ≡ trailOf [] ⌝ }
 {
     let marks = no_marks();
@@ -55,7 +55,7 @@ pub fn normal(mut search: Search) -> Search
 }
 
 // The best marking, cleared, where there is one.
-pub fn best_or_none(found: bool, best: Trail) -> Trail
+fn best_or_none(found: bool, best: Trail) -> Trail
     ensures { λ r. ⌜ r ≡ bestTo found best ⌝ }
 {
     if found {
@@ -65,7 +65,7 @@ pub fn best_or_none(found: bool, best: Trail) -> Trail
 }
 
 // A search of a pattern without nonzeros, which is complete.
-pub fn blank(m: u64, n: u64, nonzeros: u64, cap: u64) -> Search
+fn blank(m: u64, n: u64, nonzeros: u64, cap: u64) -> Search
     ensures { λ r. ⌜ r ≡ searchOf (fresh m n nonzeros cap 0) ⌝ }
 {
     let best = no_trail();
@@ -85,16 +85,15 @@ pub fn blank(m: u64, n: u64, nonzeros: u64, cap: u64) -> Search
 }
 
 // The trail of one mark, 0.
-pub fn first_trail() -> Trail
+fn first_trail() -> Trail
     ensures { λ r. ⌜ r ≡ trailOf (0 ∷ []) ⌝ }
 {
-    let mut marks = no_marks();
-    marks[0] = 0;
-    Trail { marks, len: 1 }
+    let empty = no_trail();
+    empty.append(0)
 }
 
 // A fresh search of k + 1 lines with nonzeros.
-pub fn begun(m: u64, n: u64, nonzeros: u64, cap: u64, k: u16) -> Search
+fn begun(m: u64, n: u64, nonzeros: u64, cap: u64, k: u16) -> Search
     ensures { λ r. ⌜ r ≡ searchOf (fresh m n nonzeros cap (suc k)) ⌝ }
 {
     let best = no_trail();

@@ -1,13 +1,13 @@
 // The marks of a trail: legal ones, each 0, 1 or cut with 0 as the first other than cut, and the number cut.
-use marking::trail::is_part;
-use marking::trail::mark_at;
+use trail::is_part;
+use trail::mark_at;
 ghost use mathlib.Core.Path.{_≡_};
 ghost use Rattle.counting.specs.Tests.{_or_};
-ghost use Rattle.marking.specs.Stack.{isPart};
+ghost use Rattle.trail.specs.Trail.{isPart};
 ghost use Rattle.state.specs.Legal.{marksLegal, zeroFirst, oneDenied, cutsIn};
 
 // Each mark before an index is 0, 1 or cut.
-pub fn are_marks(marks: &[u8; 240], end: usize) -> bool
+pub(crate) fn are_marks(marks: &[u8; 240], end: usize) -> bool
     ensures { λ r. ⌜ r ≡ marksLegal (now (marks .entry)) end ⌝ }
 {
     let mut i = 0;
@@ -21,7 +21,7 @@ pub fn are_marks(marks: &[u8; 240], end: usize) -> bool
 }
 
 // Mark 1 stands where no earlier mark is 0 or 1.
-pub fn one_denied(mark: u8, part: bool) -> bool
+fn one_denied(mark: u8, part: bool) -> bool
     ensures { λ r. ⌜ r ≡ oneDenied mark part ⌝ }
 {
     if part {
@@ -31,14 +31,14 @@ pub fn one_denied(mark: u8, part: bool) -> bool
 }
 
 // A part's mark now or earlier.
-pub fn part_so_far(mark: u8, part: bool) -> bool
+fn part_so_far(mark: u8, part: bool) -> bool
     ensures { λ r. ⌜ r ≡ isPart mark or part ⌝ }
 {
     if is_part(mark) { true } else { part }
 }
 
 // The first mark other than cut before an index is 0.
-pub fn starts_with_zero(marks: &[u8; 240], end: usize) -> bool
+pub(crate) fn starts_with_zero(marks: &[u8; 240], end: usize) -> bool
     ensures { λ r. ⌜ r ≡ zeroFirst (now (marks .entry)) end ⌝ }
 {
     let mut part = false;

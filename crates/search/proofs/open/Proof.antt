@@ -5,7 +5,7 @@ use native.Mathlib.Omega.{arith}
 use Rattle.model.specs.declared.Verdict.the-variants.{Accepted}
 use Rattle.model.specs.Calls.{openVerdict}
 use Rattle.model.proofs.Theorems.Replies.{open-told}
-use Rattle.model.proofs.Theorems.Accepted.{ListFine, list-accepted, OpenFine, open-accepted}
+use Rattle.model.proofs.Theorems.Accepted.{ListFine, list-accepted, open-accepted}
 use Rattle.pattern.proofs.Verdicts.{accepted-tag}
 use Rattle.search.proofs.Openings.{open-answer, open-refused}
 use borrow.Author.Needs.{needs}

@@ -27,7 +27,7 @@ ghost use Rattle.state.specs.Ready.{Fits, Ready};
 ghost use Rattle.search.specs.Running.{budgetBy};
 
 // Tries are left, and the search is not complete.
-pub fn goes_on(complete: bool, made: u64, budget: u64) -> bool
+fn goes_on(complete: bool, made: u64, budget: u64) -> bool
     ensures { λ r. ⌜ r ≡ not complete and ltb made budget ⌝ }
 {
     if complete {
@@ -63,7 +63,7 @@ fn run_from(
 }
 
 // 13: over a call's range, or tries + budget over the limit.
-pub fn budget_verdict(tries: u64, budget: u64) -> Verdict
+fn budget_verdict(tries: u64, budget: u64) -> Verdict
     ensures { λ r. ⌜ r ≡ budgetBy tries budget ⌝ }
 {
     if 1_000_000 < budget {
@@ -79,7 +79,7 @@ pub fn budget_verdict(tries: u64, budget: u64) -> Verdict
 }
 
 // Complete, or stopped otherwise.
-pub fn ended_as(complete: bool) -> RunAnswer
+fn ended_as(complete: bool) -> RunAnswer
     ensures { λ r. ⌜ r ≡ ended complete ⌝ }
 {
     if complete {
@@ -153,7 +153,14 @@ fn run_listed(search: Search, m: u64, n: u64, nonzeros: u64, list: &[u8], budget
 }
 
 // A run on any list.
-pub fn run_search(search: Search, m: u64, n: u64, nonzeros: u64, list: &[u8], budget: u64) -> Ran
+pub(crate) fn run_search(
+    search: Search,
+    m: u64,
+    n: u64,
+    nonzeros: u64,
+    list: &[u8],
+    budget: u64,
+) -> Ran
     ensures { λ a. ⌜ a ≡ runCall search m n nonzeros (now (list .entry)) budget ⌝ }
 {
     let listed = list_verdict(m, n, nonzeros, list);

@@ -13,6 +13,12 @@ may-one-requires c κs = search needs
 may-cut-requires : tie.Need-may-cut-requires
 may-cut-requires c κs = search needs
 
+replace-last-requires : tie.Need-replace-last-requires
+replace-last-requires c κs = search needs
+
+replace-last-requires-2 : tie.Need-replace-last-requires-2
+replace-last-requires-2 c κs = search needs
+
 least-if-requires : tie.Need-least-if-requires
 least-if-requires c κs = search needs
 
@@ -22,24 +28,34 @@ least-if-requires-2 c κs = search needs
 returns : tie.Need-returns
 returns c =
     λ k placed.
-    let f = c .before .before in
-    let a = f .before .before .before .args in
+    let put = c .before .before in
+    let may = put .before .before in
+    let a = may .before .before .before .args in
     later-is
     (rulesOf (patternOf (a .m) (a .n) (a .nonzeros) (a .list .now)) (a .cap))
     (a .trail)
-    (f .before .may-one .result)
-    (f .may-cut .result)
+    _
+    _
+    _
+    _
     (a .least)
-    (c .before .least-if .result)
-    (c .least-if2 .result)
-    (f .before .may-one .ensures)
-    (f .may-cut .ensures)
-    (c .before .least-if .ensures .0)
-    (c .before .least-if .ensures .1 k placed)
-    (c .least-if2 .ensures .0)
-    (c .least-if2 .ensures .1 k placed)
+    _
+    _
+    (may .before .may-one .ensures)
+    (may .may-cut .ensures)
+    (put .before .replace-last .ensures)
+    (put .replace-last2 .ensures)
+    (c .before .least-if .ensures k placed)
+    (c .least-if2 .ensures k placed)
 
 pub least-later-spec : {M : Type 1} → statement M
 least-later-spec =
     tie.close
-    (tie.spec may-one-requires may-cut-requires least-if-requires least-if-requires-2 returns)
+    (tie.spec
+    may-one-requires
+    may-cut-requires
+    replace-last-requires
+    replace-last-requires-2
+    least-if-requires
+    least-if-requires-2
+    returns)

@@ -6,20 +6,21 @@ use mathlib.Core.Path.{_≡_, refl, sym, _∙_, ap}
 use Prim.Native.Nat.{ℕ, _≤_}
 use native.Mathlib.Omega.{arith}
 use lib.ListN.{length}
+use Rattle.trail.specs.declared.Trail.{Trail}
+use Rattle.trail.proofs.Methods.{drops}
 use Rattle.model.specs.Pattern.{patternOf}
 use Rattle.model.specs.Walk.{rulesOf, leastBound, beginningsLater}
-use Rattle.marking.specs.declared.trail.Stack.{Stack}
-use Rattle.marking.specs.Stack.{stackOf}
+use Rattle.model.specs.State.{trailOf}
 use Rattle.bound.specs.Evaluated.{Listed, Placed}
 use Rattle.flooring.proofs.Lowering.{least-first}
-use Rattle.flooring.proofs.Later.{Left, drops, left-again, left-done}
+use Rattle.flooring.proofs.Later.{Left, left-again, left-done}
 use Rattle.flooring.proofs.least.least_open.Statement.{statement}
 use Rattle.flooring.proofs.least.least_open.Tie as tie
 
 abbrev Inv-loop : tie.InvT-loop
 Inv-loop m n nonzeros list cap places starts least s₀ so-far₀ s so-far =
     Listed m n nonzeros list starts → Placed (patternOf m n nonzeros list) places →
-    (τ : List ℕ) → length τ ≤ 240 → s₀ ≡ stackOf τ →
+    (τ : List ℕ) → length τ ≤ 240 → s₀ ≡ trailOf τ →
     Left (rulesOf (patternOf m n nonzeros list) cap) (leastBound (rulesOf (patternOf m n nonzeros list) cap) so-far₀ (beginningsLater τ)) s so-far
 
 abbrev μ-loop : tie.MeasureT-loop
@@ -37,8 +38,8 @@ has-last-requires c κs = search needs
 least-later-requires : tie.Need-least-later-requires Inv-loop μ-loop
 least-later-requires c κs = search needs
 
-drop-last-requires : tie.Need-drop-last-requires Inv-loop μ-loop
-drop-last-requires c κs = search needs
+drop-requires : tie.Need-drop-requires Inv-loop μ-loop
+drop-requires c κs = search needs
 
 loop-less : tie.Need-loop-less Inv-loop μ-loop
 loop-less c =
@@ -47,7 +48,7 @@ loop-less c =
     omega (
       arith,
       drops s (sym (f .has-last .ensures) ∙ c .before .before .if1 .taken),
-      ap (λ (x : Stack). x .len) (c .drop-last .ensures),
+      ap (λ (x : Trail). x .len) (c .drop .ensures),
     )
 
 loop-again : tie.Need-loop-again Inv-loop μ-loop
@@ -61,11 +62,11 @@ loop-again c =
     R
     (leastBound R (l .before .least-with .result) (beginningsLater τ))
     (l .loop .s)
-    (c .drop-last .result)
+    (c .drop .result)
     (l .loop .so-far)
     (c .before .least-later .result)
     (sym (f .has-last .ensures) ∙ c .before .before .if1 .taken)
-    (c .drop-last .ensures)
+    (c .drop .ensures)
     (c .before .least-later .ensures k placed)
     (l .loop .inv k placed τ short held)
 
@@ -95,7 +96,7 @@ least-open-spec =
     loop-holds
     has-last-requires
     least-later-requires
-    drop-last-requires
+    drop-requires
     loop-less
     loop-again
     returns)

@@ -1,9 +1,9 @@
 -- `flooring::least_with` meets its contract.
 -- Assumes nothing.
 use mathlib.Core.Path.{_∙_, ap}
-use Rattle.marking.specs.declared.trail.Stack.{Stack}
-use Rattle.marking.specs.Stack.{stackOf}
-use Rattle.flooring.proofs.Lowering.{lowered-is}
+use Rattle.trail.specs.declared.Trail.{Trail}
+use Rattle.model.specs.State.{trailOf}
+use Rattle.flooring.proofs.Lowering.{least-of-is}
 use borrow.Author.Needs.{needs}
 use Rattle.flooring.proofs.least.least_with.Statement.{statement}
 use Rattle.flooring.proofs.least.least_with.Tie as tie
@@ -11,16 +11,16 @@ use Rattle.flooring.proofs.least.least_with.Tie as tie
 evaluate-requires : tie.Need-evaluate-requires
 evaluate-requires c κs = search needs
 
-lower-requires : tie.Need-lower-requires
-lower-requires c κs = search needs
+least-of-requires : tie.Need-least-of-requires
+least-of-requires c κs = search needs
 
 returns : tie.Need-returns
-unfolding stackOf
+unfolding trailOf
 returns c =
     λ k placed τ short held.
     let a = c .before .before .before .before .before .args in
-    c .lower .ensures
-    ∙ lowered-is
+    c .least-of .ensures
+    ∙ least-of-is
     τ
     (a .least)
     (c .before .evaluate .ensures
@@ -28,8 +28,8 @@ returns c =
     placed
     τ
     short
-    (ap (λ (s : Stack). s .marks) held)
-    (ap (λ (s : Stack). s .len) held))
+    (ap (λ (t : Trail). t .marks) held)
+    (ap (λ (t : Trail). t .len) held))
 
 pub least-with-spec : {M : Type 1} → statement M
-least-with-spec = tie.close (tie.spec evaluate-requires lower-requires returns)
+least-with-spec = tie.close (tie.spec evaluate-requires least-of-requires returns)

@@ -1,7 +1,11 @@
 -- `flooring::may_one` meets its contract.
 -- Assumes nothing.
+use borrow.Author.Tests.{ne-eqb, eq-eqb}
+use mathlib.Core.Path.{sym, _∙_}
 use native.Mathlib.Omega.{arith}
-use Rattle.flooring.proofs.Later.{may-one-denied, may-one-when}
+use Rattle.counting.proofs.Joined.{no-way, and-fails-left, and-passed}
+use Rattle.trail.specs.Trail.{lastMark, partBefore}
+use Rattle.flooring.specs.Least.{mayOne}
 use borrow.Author.Needs.{needs}
 use Rattle.flooring.proofs.least.may_one.Statement.{statement}
 use Rattle.flooring.proofs.least.may_one.Tie as tie
@@ -10,25 +14,20 @@ last-requires : tie.Need-last-requires
 last-requires c κs = search needs
 
 returns : tie.Need-returns
-returns c = may-one-denied (c .before .before .args .trail) (omega (arith, c .if1 .taken, c .before .last .ensures))
+unfolding mayOne
+returns c =
+    let t = c .before .before .args .trail in
+    sym (and-fails-left (partBefore t) (ne-eqb (lastMark t 2) 0 (λ e. no-way (omega (arith, c .if1 .taken, c .before .last .ensures)))))
 
-top-requires : tie.Need-top-requires
-top-requires c κs = search needs
-
-gives-part-requires : tie.Need-gives-part-requires
-gives-part-requires c κs = search needs
+part-before-requires : tie.Need-part-before-requires
+part-before-requires c κs = search needs
 
 returns-2 : tie.Need-returns-2
+unfolding mayOne
 returns-2 c =
-    let f = c .before .before .before .before in
-    may-one-when
-    (f .before .before .args .trail)
-    (c .before .top .result)
-    (c .gives-part .result)
-    (omega (arith, f .if1 .left, f .before .last .ensures))
-    (c .before .top .ensures)
-    (c .gives-part .ensures)
+    let t = c .before .before .before .args .trail in
+    c .part-before .ensures
+    ∙ sym (and-passed (partBefore t) (eq-eqb (lastMark t 2) 0 (omega (arith, c .before .if1 .left, c .before .before .last .ensures))))
 
 pub may-one-spec : {M : Type 1} → statement M
-may-one-spec =
-    tie.close (tie.spec last-requires returns top-requires gives-part-requires returns-2)
+may-one-spec = tie.close (tie.spec last-requires returns part-before-requires returns-2)

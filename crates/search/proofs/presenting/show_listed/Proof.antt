@@ -1,6 +1,6 @@
 -- `search::presenting::show_listed` meets its contract.
 -- Assumes nothing.
-use mathlib.Core.Path.{_≡_, sym, _∙_}
+use mathlib.Core.Path.{sym, _∙_}
 use native.Mathlib.Omega.{arith}
 use Rattle.model.specs.declared.Word.the-variants.{State}
 use Rattle.model.proofs.Theorems.Accepted.{list-accepted}

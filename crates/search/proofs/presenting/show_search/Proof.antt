@@ -1,6 +1,6 @@
 -- `search::presenting::show_search` meets its contract.
 -- Assumes nothing.
-use mathlib.Core.Path.{_≡_, sym, _∙_}
+use mathlib.Core.Path.{sym, _∙_}
 use Rattle.pattern.proofs.Verdicts.{accepted-tag}
 use Rattle.state.proofs.Checks.{then-unlisted}
 use Rattle.search.specs.Showing.{roomBy}

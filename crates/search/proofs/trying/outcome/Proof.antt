@@ -1,13 +1,14 @@
 -- `search::outcome` meets its contract.
 -- Assumes nothing.
+use mathlib.Core.Bool.{true, false}
+use mathlib.Core.Path.{refl, _∙_, ap}
 use native.Mathlib.Omega.{arith}
-use Rattle.search.proofs.Tries.{outcome-grows, outcome-betters, outcome-gives-up, improved-tries}
+use Rattle.model.specs.declared.Search.{Search}
+use Rattle.search.specs.Trying.{triedTo, improvedBy, outcomeBy}
+use Rattle.search.proofs.Tries.{outcome-by, improved-tries}
 use borrow.Author.Needs.{needs}
 use Rattle.search.proofs.trying.outcome.Statement.{statement}
 use Rattle.search.proofs.trying.outcome.Tie as tie
-
-stack-of-requires : tie.Need-stack-of-requires
-stack-of-requires c κs = search needs
 
 append-requires : tie.Need-append-requires
 append-requires c κs = search needs
@@ -16,20 +17,12 @@ tried-requires : tie.Need-tried-requires
 tried-requires c κs = search needs
 
 returns : tie.Need-returns
+unfolding outcomeBy
 returns c =
     let s = c .before .before .before .before .before .before .args .search in
-    outcome-grows
-    _
-    _
-    s
-    _
-    _
-    _
-    (c .before .before .before .before .before .stack-of .ensures)
-    (c .before .before .before .if1 .taken)
-    (c .before .before .if2 .taken)
-    (c .before .append .ensures)
-    (c .tried .ensures)
+    c .tried .ensures
+    ∙ ap (triedTo s) (c .before .append .ensures)
+    ∙ outcome-by true true s (c .before .before .before .if1 .taken) (c .before .before .if2 .taken)
 
 improved-requires : tie.Need-improved-requires
 improved-requires c κs = search needs
@@ -42,22 +35,14 @@ tried-requires-2 c κs =
     omega (arith, c .before .before .before .before .before .before .pre, improved-tries _ _ (c .before .improved .ensures))
 
 returns-2 : tie.Need-returns-2
+unfolding outcomeBy
 returns-2 c =
     let b = c .before .before .before in
-    outcome-betters
-    _
-    _
-    (b .before .before .before .before .args .search)
-    _
-    _
-    _
-    _
-    (b .before .before .before .stack-of .ensures)
-    (b .before .if1 .taken)
-    (b .if2 .left)
-    (c .before .before .improved .ensures)
-    (c .before .advance .ensures)
-    (c .tried2 .ensures)
+    let s = b .before .before .before .before .args .search in
+    c .tried2 .ensures
+    ∙ ap (λ (x : Search). triedTo x (c .before .advance .result)) (c .before .before .improved .ensures)
+    ∙ ap (triedTo (improvedBy s)) (c .before .advance .ensures)
+    ∙ outcome-by true false s (b .before .if1 .taken) (b .if2 .left)
 
 advance-requires-2 : tie.Need-advance-requires-2
 advance-requires-2 c κs = search needs
@@ -66,25 +51,18 @@ tried-requires-3 : tie.Need-tried-requires-3
 tried-requires-3 c κs = search needs
 
 returns-3 : tie.Need-returns-3
+unfolding outcomeBy
 returns-3 c =
     let b = c .before .before in
-    outcome-gives-up
-    _
-    _
-    (b .before .before .before .args .search)
-    _
-    _
-    _
-    (b .before .before .stack-of .ensures)
-    (b .if1 .left)
-    (c .before .advance2 .ensures)
-    (c .tried3 .ensures)
+    let s = b .before .before .before .args .search in
+    c .tried3 .ensures
+    ∙ ap (triedTo s) (c .before .advance2 .ensures)
+    ∙ outcome-by false _ s (b .if1 .left) refl
 
 pub outcome-spec : {M : Type 1} → statement M
 outcome-spec =
     tie.close
     (tie.spec
-    stack-of-requires
     append-requires
     tried-requires
     returns

@@ -1,7 +1,7 @@
 -- `state::state_fine` meets its contract.
 -- Assumes nothing.
 use mathlib.Core.Bool.{Bool}
-use mathlib.Core.Path.{_≡_, sym, _∙_, ap}
+use mathlib.Core.Path.{_∙_, ap}
 use Prim.Native.Nat.{ℕ}
 use Rattle.counting.specs.Tests.{_and_}
 use Rattle.state.specs.StateBy.{trailBy}
@@ -10,8 +10,8 @@ use borrow.Author.Needs.{needs}
 use Rattle.state.proofs.checking.state_fine.Statement.{statement}
 use Rattle.state.proofs.checking.state_fine.Tie as tie
 
-shortened-requires : tie.Need-shortened-requires
-shortened-requires c κs = search needs
+drop-requires : tie.Need-drop-requires
+drop-requires c κs = search needs
 
 valid-of-requires : tie.Need-valid-of-requires
 valid-of-requires c κs = search needs
@@ -40,16 +40,46 @@ both-of-requires-2 c κs = search needs
 returns : tie.Need-returns
 returns c =
     λ ready.
-    let a = c .before .before .before .before .before .before .before .before .before .before .args in
+    let best = c .before .before in
+    let trail = best .before in
+    let numbers = trail .before .before in
+    let full = numbers .before in
+    let begins = full .before in
+    let dropped = begins .before in
+    let a = dropped .before .before .before .args in
     c .both-of2 .ensures
-    ∙ ap (λ (x : Bool). x and c .before .before .best-fine .result) (c .before .both-of .ensures)
-    ∙ checked-is (a .m) (a .n) (a .nonzeros) (a .list .now) (a .places .now) (a .starts .now) (a .k) (a .search) (c .before .before .before .before .before .before .before .before .shortened .result) (c .before .before .before .before .before .before .before .valid-of .result) (c .before .before .before .before .before .before .valid-of2 .result) (c .before .before .before .before .before .numbers-fine .result) (c .before .before .before .trail-fine .result) (c .before .before .best-fine .result) (record { short = c .before .before .before .before .before .before .before .before .shortened .ensures; begins-is = c .before .before .before .before .before .before .before .valid-of .ensures; full-is = c .before .before .before .before .before .before .valid-of2 .ensures; numbers-are = c .before .before .before .before .before .numbers-fine .ensures; trail-test = c .before .before .before .trail-fine .ensures ∙ ap (λ (j : ℕ). trailBy (a .search .complete) (a .search .trail) j (c .before .before .before .before .before .before .before .valid-of .result)) (c .before .before .before .before .wide16 .ensures .0); best-test = c .before .before .best-fine .ensures }) ready
+    ∙ ap (λ (x : Bool). x and best .best-fine .result) (c .before .both-of .ensures)
+    ∙ checked-is
+    (a .m)
+    (a .n)
+    (a .nonzeros)
+    (a .list .now)
+    (a .places .now)
+    (a .starts .now)
+    (a .k)
+    (a .search)
+    (dropped .drop .result)
+    (begins .valid-of .result)
+    (full .valid-of2 .result)
+    (numbers .numbers-fine .result)
+    (trail .trail-fine .result)
+    (best .best-fine .result)
+    (record {
+      short = dropped .drop .ensures;
+      begins-is = begins .valid-of .ensures;
+      full-is = full .valid-of2 .ensures;
+      numbers-are = numbers .numbers-fine .ensures;
+      trail-test = trail .trail-fine .ensures
+          ∙ ap (λ (j : ℕ). trailBy (a .search .complete) (a .search .trail) j (begins .valid-of .result)) (trail .before .wide16 .ensures .0);
+      best-test = best .best-fine .ensures;
+    })
+    ready
 
 pub state-fine-spec : {M : Type 1} → statement M
 state-fine-spec =
     tie.close
     (tie.spec
-    shortened-requires
+    drop-requires
     valid-of-requires
     valid-of-requires-2
     numbers-fine-requires

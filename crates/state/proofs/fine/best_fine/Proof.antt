@@ -2,7 +2,6 @@
 -- Assumes nothing.
 use mathlib.Core.Bool.{not}
 use mathlib.Core.Path.{sym, _∙_, ap}
-use Rattle.counting.specs.Tests.{_and_, pick}
 use Rattle.counting.proofs.Joined.{pick-true, pick-false, and-fails-left, and-passed}
 use Rattle.state.specs.StateBy.{bestBy}
 use borrow.Author.Needs.{needs}

@@ -2,11 +2,10 @@
 -- Assumes nothing.
 use borrow.Author.Needs.{needs}
 use borrow.Author.Tests.{lt-ltb, le-ltb}
-use mathlib.Core.Path.{_≡_, sym, _∙_, ap}
-use Prim.Native.Nat.{ℕ, _≤_, _-_}
+use mathlib.Core.Path.{_≡_, sym, _∙_}
+use Prim.Native.Nat.{_≤_, _-_}
 use native.Mathlib.Omega.{arith}
 use Rattle.counting.proofs.Joined.{pick-true, pick-false}
-use Rattle.model.specs.State.{arrayOf, marksIn, trailOf}
 use Rattle.state.specs.Holding.{clearedTo}
 use Rattle.state.proofs.Cleared.{keptTo, kept-none, kept-more, kept-trail}
 use Rattle.state.proofs.holding.cleared.Statement.{statement}

@@ -1,9 +1,5 @@
 -- `state::no_trail` meets its contract.
 -- Assumes nothing.
-use mathlib.Core.List.{List}
-use mathlib.Core.Path.{ap}
-use Prim.Native.Nat.{ℕ}
-use Rattle.model.specs.declared.Trail.{Trail}
 use Rattle.model.specs.State.{trailOf}
 use borrow.Author.Needs.{needs}
 use Rattle.state.proofs.holding.no_trail.Statement.{statement}

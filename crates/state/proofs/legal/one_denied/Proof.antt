@@ -1,7 +1,7 @@
 -- `state::one_denied` meets its contract.
 -- Assumes nothing.
 use mathlib.Core.Bool.{not}
-use mathlib.Core.Path.{sym, _∙_, ap}
+use mathlib.Core.Path.{sym, ap}
 use Rattle.counting.proofs.Joined.{and-fails-left, and-passed}
 use Rattle.state.specs.Legal.{oneDenied}
 use Rattle.state.proofs.legal.one_denied.Statement.{statement}

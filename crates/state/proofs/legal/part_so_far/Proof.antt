@@ -1,7 +1,6 @@
 -- `state::part_so_far` meets its contract.
 -- Assumes nothing.
-use mathlib.Core.Path.{sym, _∙_, ap}
-use Rattle.counting.specs.Tests.{_or_}
+use mathlib.Core.Path.{sym, _∙_}
 use Rattle.counting.proofs.Joined.{or-left, or-passed}
 use borrow.Author.Needs.{needs}
 use Rattle.state.proofs.legal.part_so_far.Statement.{statement}

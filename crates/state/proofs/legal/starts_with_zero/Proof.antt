@@ -6,8 +6,8 @@ use mathlib.Core.Path.{_≡_, sym, _∙_, ap}
 use Prim.Native.Nat.{ℕ, _≤_, _-_}
 use native.Mathlib.Omega.{arith}
 use Rattle.counting.specs.Tests.{_or_}
-use Rattle.marking.specs.Stack.{isPart, givesPartIn}
-use Rattle.marking.proofs.Stacks.{gives-none}
+use Rattle.trail.specs.Trail.{isPart, givesPartIn}
+use Rattle.trail.proofs.Methods.{gives-none}
 use Rattle.state.specs.Legal.{zeroFirst, oneDenied}
 use Rattle.state.proofs.Legals.{first-none, first-more, first-fails, part-more}
 use Rattle.state.proofs.legal.starts_with_zero.Statement.{statement}

@@ -1,6 +1,6 @@
 -- `search::run_fine` meets its contract.
 -- Assumes nothing.
-use mathlib.Core.Path.{_≡_, sym, _∙_, ap}
+use mathlib.Core.Path.{_≡_, sym, _∙_}
 use native.Mathlib.Omega.{arith}
 use Rattle.model.specs.declared.Verdict.the-variants.{Accepted}
 use Rattle.pattern.proofs.Verdicts.{accepted-tag}

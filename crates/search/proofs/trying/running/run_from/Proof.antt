@@ -1,11 +1,9 @@
 -- `search::run_from` meets its contract. The invariant of the loop: the search is the walk after the tries made.
 -- Assumes nothing.
 use borrow.Author.Needs.{needs}
-use mathlib.Core.Bool.{Bool, true, false, not}
-use mathlib.Core.Path.{_≡_, sym, _∙_, ap}
-use Prim.Native.Nat.{ℕ, _+_, _≤_, _<_, _-_}
+use mathlib.Core.Path.{sym, _∙_}
+use Prim.Native.Nat.{_+_, _≤_, _<_, _-_}
 use native.Mathlib.Omega.{arith}
-use lib.Dec.{ltb}
 use borrow.Author.Tests.{ltb-true, not-true}
 use Rattle.counting.proofs.Joined.{and-left, and-right}
 use Rattle.search.proofs.RunLaws.{Walks, run-start, run-more, run-end}

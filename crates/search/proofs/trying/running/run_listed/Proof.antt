@@ -1,6 +1,6 @@
 -- `search::run_listed` meets its contract. The casts fit where the sizes are accepted.
 -- Assumes nothing.
-use mathlib.Core.Path.{_≡_, sym, _∙_}
+use mathlib.Core.Path.{sym, _∙_}
 use native.Mathlib.Omega.{arith}
 use Rattle.model.proofs.Theorems.Accepted.{list-accepted}
 use Rattle.state.proofs.Accepting.{accepted-ready}

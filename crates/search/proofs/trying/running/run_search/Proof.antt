@@ -1,6 +1,6 @@
 -- `search::trying::running::run_search` meets its contract.
 -- Assumes nothing.
-use mathlib.Core.Path.{_≡_, sym, _∙_}
+use mathlib.Core.Path.{sym, _∙_}
 use Rattle.pattern.proofs.Verdicts.{accepted-tag}
 use Rattle.search.proofs.Answered.{run-unlisted}
 use borrow.Author.Needs.{needs}

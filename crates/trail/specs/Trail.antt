@@ -1,0 +1,85 @@
+-- What the methods of a trail do, a stack of marks in an array.
+-- Assumes nothing.
+use mathlib.Core.Bool.{Bool, true, false}
+use mathlib.Core.List.{List}
+use Prim.Native.Nat.{ℕ, zero, suc, _+_, _-_}
+use lib.Dec.{ltb}
+use lib.ListN.{getD, set}
+use Rattle.counting.specs.Tests.{_or_, pick}
+use Rattle.trail.specs.declared.Trail.{Trail}
+
+-- the index of the last of so many marks, or 240 where there is none
+unfoldable pub topOf : ℕ → ℕ
+topOf len = pick (ltb 0 len) (len - 1) 240
+
+-- there is a last mark, within the array
+unfoldable pub hasLast : Trail → Bool
+hasLast t = ltb (topOf (t .len)) 240
+
+-- the trail of these marks and this length
+abbrev pub trailWith : List ℕ → ℕ → Trail
+trailWith marks len = record { marks = marks; len = len }
+
+-- this mark at this index, and this length
+abbrev pub withMark : Trail → ℕ → ℕ → ℕ → Trail
+withMark t at mark len = trailWith (set (t .marks) at mark) len
+
+-- one mark more, where there is room
+unfoldable pub appended : Trail → ℕ → Trail
+appended t mark = pick (ltb (t .len) 240) (withMark t (t .len) mark (t .len + 1)) t
+
+-- without the mark at this index, the last
+unfoldable pub droppedAt : Trail → ℕ → Trail
+droppedAt t at = pick (ltb at 240) (withMark t at 0 at) t
+
+-- without the last mark
+unfoldable pub dropped : Trail → Trail
+dropped t = droppedAt t (topOf (t .len))
+
+-- the mark at an index, or `none` past the array's end
+unfoldable pub markOr : ℕ → List ℕ → ℕ → ℕ
+markOr none marks i = pick (ltb i 240) (getD marks i 0) none
+
+-- the last mark, or `none`
+unfoldable pub lastMark : Trail → ℕ → ℕ
+lastMark t none = markOr none (t .marks) (topOf (t .len))
+
+-- another mark at this index, the last
+unfoldable pub replacedAt : Trail → ℕ → ℕ → Trail
+replacedAt t mark at = pick (ltb at 240) (withMark t at mark (t .len)) t
+
+-- another last mark
+unfoldable pub replaced : Trail → ℕ → Trail
+replaced t mark = replacedAt t mark (topOf (t .len))
+
+-- a mark is 0 or 1
+abbrev pub isPart : ℕ → Bool
+isPart mark = ltb mark 2
+
+-- some mark before this index is 0 or 1
+unfoldable pub givesPartIn : List ℕ → ℕ → Bool
+givesPartIn marks zero = false
+givesPartIn marks (suc i) = isPart (markOr 0 marks i) or givesPartIn marks i
+
+-- some mark before the last is 0 or 1
+unfoldable pub partBefore : Trail → Bool
+partBefore t = givesPartIn (t .marks) (topOf (t .len))
+
+-- without the marks cut at its end, of so many
+unfoldable pub uncut : ℕ → Trail → Trail
+uncut zero t = t
+uncut (suc d) t = pick (ltb 1 (lastMark t 0)) (uncut d (dropped t)) t
+
+-- the mark that a last mark becomes where it is not cut: 0 becomes 1 or cut, and 1 becomes cut
+unfoldable pub nextMark : ℕ → Bool → ℕ
+nextMark zero true = 1
+nextMark zero false = 2
+nextMark (suc x) allowed = 2
+
+-- with its last mark advanced, where that is not cut
+unfoldable pub lastAdvanced : Trail → Trail
+lastAdvanced t = replaced t (nextMark (lastMark t 0) (partBefore t))
+
+-- advanced
+unfoldable pub advanced : Trail → Trail
+advanced t = lastAdvanced (uncut (t .len) t)

@@ -1,0 +1,145 @@
+// The trail: a marking in the order of lines, as a stack of marks. Its methods append, drop and advance marks and hand it back.
+ghost use mathlib.Core.Path.{_≡_};
+ghost use Rattle.trail.specs.Trail.{topOf, hasLast, appended, dropped, replaced, lastMark, markOr, isPart, givesPartIn, partBefore, nextMark, uncut, lastAdvanced, advanced};
+
+// A marking: the mark of the line at place i is marks[i], for each i below len. Methods keep 0 in the marks past its length.
+pub struct Trail {
+    pub marks: [u8; 240],
+    pub len: usize,
+}
+
+// The index of the last of so many marks, or 240 where there is none.
+fn top(len: usize) -> usize
+    ensures { λ r. ⌜ r ≡ topOf len ⌝ }
+{
+    if 0 < len { len - 1 } else { 240 }
+}
+
+// Some mark before this index is 0 or 1. Past the array's end marks count as 0.
+fn gives_part(marks: &[u8; 240], before: usize) -> bool
+    ensures { λ r. ⌜ r ≡ givesPartIn (now (marks .entry)) before ⌝ }
+{
+    let mut i = 0;
+    while i < before {
+        if is_part(mark_at(marks, i)) {
+            return true;
+        }
+        i += 1;
+    }
+    false
+}
+
+// The mark at an index, or 0 past the array's end.
+pub fn mark_at(marks: &[u8; 240], i: usize) -> u8
+    ensures { λ r. ⌜ r ≡ markOr 0 (now (marks .entry)) i ⌝ }
+{
+    if i < 240 { marks[i] } else { 0 }
+}
+
+// A mark is 0 or 1.
+pub fn is_part(mark: u8) -> bool
+    ensures { λ r. ⌜ r ≡ isPart mark ⌝ }
+{
+    mark < 2
+}
+
+// The mark that a last mark becomes where it is not cut.
+fn next_mark(mark: u8, allowed: bool) -> u8
+    ensures { λ r. ⌜ r ≡ nextMark mark allowed ⌝ }
+{
+    if mark == 0 {
+        if allowed {
+            return 1;
+        }
+    }
+    2
+}
+
+impl Trail {
+    // It has a last mark, within the array.
+    pub fn has_last(self) -> bool
+        ensures { λ r. ⌜ r ≡ hasLast self ⌝ }
+    {
+        top(self.len) < 240
+    }
+
+    // One mark more; a full trail stays as it is.
+    pub fn append(mut self, mark: u8) -> Trail
+        ensures { λ r. ⌜ r ≡ appended self mark ⌝ }
+    {
+        let at = self.len;
+        if at < 240 {
+            self.marks[at] = mark;
+            self.len = at + 1;
+        }
+        self
+    }
+
+    // Without its last mark; a trail that has none stays as it is.
+    pub fn drop(mut self) -> Trail
+        ensures { λ r. ⌜ r ≡ dropped self ⌝ }
+    {
+        let at = top(self.len);
+        if at < 240 {
+            self.marks[at] = 0;
+            self.len = at;
+        }
+        self
+    }
+
+    // The last mark, or `none` where there is none.
+    pub fn last(self, none: u8) -> u8
+        ensures { λ r. ⌜ r ≡ lastMark self none ⌝ }
+    {
+        let at = top(self.len);
+        if at < 240 { self.marks[at] } else { none }
+    }
+
+    // Another last mark; a trail that has none stays as it is.
+    pub fn replace_last(mut self, mark: u8) -> Trail
+        ensures { λ r. ⌜ r ≡ replaced self mark ⌝ }
+    {
+        let at = top(self.len);
+        if at < 240 {
+            self.marks[at] = mark;
+        }
+        self
+    }
+
+    // Some mark before the last is 0 or 1.
+    pub fn part_before(self) -> bool
+        ensures { λ r. ⌜ r ≡ partBefore self ⌝ }
+    {
+        let marks = self.marks;
+        gives_part(&marks, top(self.len))
+    }
+
+    // Without the marks cut at its end.
+    fn without_cuts(self) -> Trail
+        ensures { λ r. ⌜ r ≡ uncut (self .len) self ⌝ }
+    {
+        let mut trail = self;
+        while 1 < trail.last(0) {
+            trail = trail.drop();
+        }
+        trail
+    }
+
+    // With its last mark advanced, where that is not cut.
+    fn advance_last(self) -> Trail
+        ensures { λ r. ⌜ r ≡ lastAdvanced self ⌝ }
+    {
+        let allowed = self.part_before();
+        let mark = next_mark(self.last(0), allowed);
+        self.replace_last(mark)
+    }
+
+    // Advanced: last mark 0 becomes 1 if some earlier mark is 0 or 1, else cut; 1 becomes cut; cut is dropped and the mark before it
+    // advances.
+    pub fn advance(self) -> Trail
+        ensures { λ r. ⌜ r ≡ advanced self ⌝ }
+    {
+        let kept = self.without_cuts();
+        kept.advance_last()
+    }
+}
