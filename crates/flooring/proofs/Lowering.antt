@@ -3,7 +3,7 @@
 use mathlib.Core.Bool.{Bool, true, false}
 use mathlib.Core.List.{List, [], _∷_, _++_}
 use mathlib.Core.Path.{_≡_, refl, sym, _∙_, ap}
-use Prim.Native.Nat.{ℕ, _≤_, _<_, min}
+use Prim.Native.Nat.{ℕ, min}
 use native.Mathlib.Omega.{arith}
 use Rattle.counting.specs.Tests.{pick}
 use Rattle.counting.proofs.Joined.{pick-true, pick-false}
@@ -72,16 +72,3 @@ pub least-of-is : {P : Pattern} {cap : ℕ} (τ : List ℕ) {e : Evaluation} (le
     → Evaluates P cap (marking P τ) e → leastOf e least ≡ leastBound (rulesOf P cap) least (τ ∷ [])
 unfolding leastOf leastBound rulesOf
 least-of-is τ {e} least k = pick-min (e .valid) _ (e .bound) _ least (k .valid-is) (k .bound-is)
-
--- a count that a bound lowers or not
-pub least-of-yes : (e : Evaluation) (least : ℕ) → e .valid ≡ true → e .bound < least → e .bound ≡ leastOf e least
-unfolding leastOf
-least-of-yes e least v h = sym (pick-true (min (e .bound) least) least v ∙ omega arith)
-
-pub least-of-not : (e : Evaluation) (least : ℕ) → e .valid ≡ true → least ≤ e .bound → least ≡ leastOf e least
-unfolding leastOf
-least-of-not e least v h = sym (pick-true (min (e .bound) least) least v ∙ omega arith)
-
-pub least-of-invalid : (e : Evaluation) (least : ℕ) → e .valid ≡ false → least ≡ leastOf e least
-unfolding leastOf
-least-of-invalid e least v = sym (pick-false (min (e .bound) least) least v)
