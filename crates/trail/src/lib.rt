@@ -115,14 +115,13 @@ impl Trail {
     }
 
     // Without the marks cut at its end.
-    fn without_cuts(self) -> Trail
+    fn without_cuts(mut self) -> Trail
         ensures { λ r. ⌜ r ≡ uncut (self .len) self ⌝ }
     {
-        let mut trail = self;
-        while 1 < trail.last(0) {
-            trail = trail.drop();
+        while 1 < self.last(0) {
+            self = self.drop();
         }
-        trail
+        self
     }
 
     // With its last mark advanced, where that is not cut.
@@ -136,10 +135,10 @@ impl Trail {
 
     // Advanced: last mark 0 becomes 1 if some earlier mark is 0 or 1, else cut; 1 becomes cut; cut is dropped and the mark before it
     // advances.
-    pub fn advance(self) -> Trail
+    pub fn advance(mut self) -> Trail
         ensures { λ r. ⌜ r ≡ advanced self ⌝ }
     {
-        let kept = self.without_cuts();
-        kept.advance_last()
+        self = self.without_cuts();
+        self.advance_last()
     }
 }

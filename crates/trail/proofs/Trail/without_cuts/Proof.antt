@@ -27,13 +27,13 @@ drop-requires c κs = search needs
 
 loop-less : tie.Need-loop-less Inv-loop μ-loop
 loop-less c =
-    let t = c .before .before .before .loop .trail in
+    let t = c .before .before .before .loop .self in
     let more : 1 < lastMark t 0 = omega (arith, c .before .if1 .taken, c .before .before .last .ensures) in
     omega (arith, drops t (cut-last t more), ap (λ (x : Trail). x .len) (c .drop .ensures))
 
 loop-again : tie.Need-loop-again Inv-loop μ-loop
 loop-again c =
-    let t = c .before .before .before .loop .trail in
+    let t = c .before .before .before .loop .self in
     let more : 1 < lastMark t 0 = omega (arith, c .before .if1 .taken, c .before .before .last .ensures) in
     ap (λ (x : Trail). uncut (x .len) x) (c .drop .ensures)
     ∙ sym (uncut-more t more)
@@ -41,7 +41,7 @@ loop-again c =
 
 returns : tie.Need-returns Inv-loop μ-loop
 returns c =
-    let t = c .before .before .loop .trail in
+    let t = c .before .before .loop .self in
     sym (uncut-done (t .len) t (omega (arith, c .if1 .left, c .before .last .ensures)))
     ∙ c .before .before .loop .inv
 
