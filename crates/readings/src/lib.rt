@@ -1,10 +1,9 @@
-// A text along with the offset of its next unread byte. Each function over it is thin and leaves the work to a scanner.
-use scanning::lines::is_empty;
+// A text along with the offset of its next unread byte, read from line to line.
+use scanning::lines::is_skipped;
 use scanning::lines::line_next;
 ghost use mathlib.Core.Path.{_≡_};
-ghost use lib.Dec.{leb};
 ghost use lib.ListN.{length};
-ghost use Rattle.scanning.specs.Lines.{lineNext, emptyLine};
+ghost use Rattle.scanning.specs.Lines.{lineNext, sizeLineAt};
 
 // A text, and the offset of its next unread byte.
 pub struct Reading<'a> {
@@ -12,59 +11,34 @@ pub struct Reading<'a> {
     pub at: usize,
 }
 
-// The reading of a text from its first byte.
-pub fn start<'a>(text: &'a [u8]) -> Reading<'a>
-    ensures { λ r. ⌜ (r .text ≡ text .entry) × (r .at ≡ 0) ⌝ }
-{
-    Reading { text, at: 0 }
-}
-
-// The reading of a text from a place on.
-pub fn reading_at<'a>(text: &'a [u8], at: usize) -> Reading<'a>
-    ensures { λ r. ⌜ (r .text ≡ text .entry) × (r .at ≡ at) ⌝ }
-{
-    Reading { text, at }
-}
-
-// Nothing is left of a text from a place on.
-pub fn is_past(text: &[u8], at: usize) -> bool
-    ensures { λ r. ⌜ r ≡ leb (length (now (text .entry))) at ⌝ }
-{
-    text.len() <= at
-}
-
-// No byte is unread.
-pub fn is_over<'a>(reading: Reading<'a>) -> bool
-    ensures { λ r. ⌜ r ≡ leb (length (now (reading .entry .text))) (reading .entry .at) ⌝ }
-{
-    is_past(reading.text, reading.at)
-}
-
-// The line to be read next has nothing but blanks.
-pub fn line_is_empty<'a>(reading: Reading<'a>) -> bool
-    ensures { λ r. ⌜ r ≡ emptyLine (now (reading .entry .text)) (reading .entry .at) ⌝ }
-{
-    is_empty(reading.text, reading.at)
-}
-
-// The offset of the next unread byte.
-pub fn place<'a>(reading: Reading<'a>) -> usize
-    ensures { λ r. ⌜ r ≡ reading .entry .at ⌝ }
-{
-    reading.at
+// The size line of a text and the line after it, each by the offset of its first byte.
+pub struct SizeLine {
+    pub at: usize,
+    pub next: usize,
 }
 
 // The reading after its next line.
 pub fn next_line<'a>(reading: Reading<'a>) -> Reading<'a>
-    ensures { λ r. ⌜ (r .text ≡ reading .entry .text) × (r .at ≡ lineNext (now (reading .entry .text)) (reading .entry .at)) ⌝ }
+    ensures { λ r. ⌜ r ≡ (record { text = reading .entry .text; at = lineNext (now (reading .entry .text)) (reading .entry .at) }) ⌝ }
 {
     let next = line_next(reading.text, reading.at);
-    reading_at(reading.text, next)
+    Reading {
+        text: reading.text,
+        at: next,
+    }
 }
 
-// The offset of the line after the one at a place, for callers that hold text and offset apart.
-pub fn line_after(text: &[u8], at: usize) -> usize
-    ensures { λ r. ⌜ r ≡ lineNext (now (text .entry)) at ⌝ }
+// The size line: the first line after the first one that is neither empty nor a comment, or the text's end.
+pub fn size_line(text: &[u8]) -> SizeLine
+    ensures { λ r. ⌜ (r .at ≡ sizeLineAt (now (text .entry)) (length (now (text .entry))) (lineNext (now (text .entry)) 0)) × (r .next ≡ lineNext (now (text .entry)) (r .at)) ⌝ }
 {
-    place(next_line(reading_at(text, at)))
+    let mut reading = next_line(Reading { text, at: 0 });
+    while is_skipped(reading.text, reading.at) {
+        reading = next_line(reading);
+    }
+    let after = next_line(reading);
+    SizeLine {
+        at: reading.at,
+        next: after.at,
+    }
 }

@@ -7,8 +7,7 @@ use crate::tests::either;
 use pattern::reading::byte_at;
 ghost use mathlib.Core.Path.{_≡_};
 ghost use Prim.Native.Nat.{_-_};
-ghost use lib.ListN.{length};
-ghost use Rattle.scanning.specs.Lines.{runsAt, runEnd, lineStop, hasReturn, lineEnd, lineNext, emptyLine, isComment, passedOver, skipped, sizeLineAt};
+ghost use Rattle.scanning.specs.Lines.{runsAt, runEnd, lineStop, hasReturn, lineEnd, lineNext, emptyLine, isComment, passedOver, skipped};
 
 // The difference of two numbers, and 0 where it would fall below.
 pub fn less(x: usize, y: usize) -> usize
@@ -122,15 +121,4 @@ pub fn is_skipped(text: &[u8], at: usize) -> bool
         return false;
     }
     is_passed_over(text, at, true)
-}
-
-// The first line from a place on that is neither empty nor a comment, or the text's end.
-pub fn size_line_at(text: &[u8], at: usize) -> usize
-    ensures { λ r. ⌜ r ≡ sizeLineAt (now (text .entry)) (length (now (text .entry))) at ⌝ }
-{
-    let mut i = at;
-    while is_skipped(text, i) {
-        i = line_next(text, i);
-    }
-    i
 }

@@ -13,6 +13,7 @@ use Rattle.model.specs.Limits.{lineLimit}
 use Rattle.model.specs.Refusal.{refuse, _then_}
 use Rattle.model.specs.Calls.{outside}
 use Rattle.texts.specs.declared.Header.{Header}
+use Rattle.texts.specs.declared.Progress.{Progress}
 use Rattle.scanning.specs.declared.Numbers.{Numbers}
 use Rattle.scanning.specs.Lines.{lineEnd, lineNext, emptyLine}
 use Rattle.scanning.specs.Words.{numbersAt}
@@ -85,3 +86,16 @@ entriesFrom text h (suc k) at count cells =
     cells
     (entriesFrom text h k (lineNext text at) (count + bit (not (emptyLine text at))) (noted text h at cells)))
     (record { verdict = endVerdict (length text) h count; cells = cells })
+
+-- the reading goes on: nothing is refused yet, and text is left
+unfoldable pub readsOn : List ℕ → ℕ → Verdict → Bool
+readsOn text at Accepted = ltb at (length text)
+readsOn text at (Refused word place) = false
+
+-- what the lines from `at` on give, after the lines before them
+unfoldable pub entriesAfter : List ℕ → Header → ℕ → Progress → List ℕ → Entries
+entriesAfter text h at p cells = after (p .verdict) cells (entriesFrom text h (length text) at (p .count) cells)
+
+-- what is given where no line is left
+unfoldable pub endAfter : List ℕ → Header → Progress → List ℕ → Entries
+endAfter text h p cells = record { verdict = p .verdict then endVerdict (length text) h (p .count); cells = cells }

@@ -6,11 +6,10 @@ use model::Word;
 use pattern::checks::and_then;
 use pattern::checks::sizes_verdict;
 use pattern::splits::both;
-use readings::line_after;
+use readings::size_line;
 use scanning::Run;
 use scanning::lines::line_end;
 use scanning::lines::run_end;
-use scanning::lines::size_line_at;
 use scanning::tests::either;
 use scanning::tests::move_to;
 use scanning::tests::refuse_if;
@@ -55,11 +54,9 @@ pub fn header_of(text: &[u8]) -> Header
 {
     let end = line_end(text, 0);
     let banner = banner_at(text, end);
-    let second = line_after(text, 0);
-    let at = size_line_at(text, second);
-    let stop = line_end(text, at);
-    let sizes = numbers_at(text, at, stop, true);
-    let next = line_after(text, at);
+    let line = size_line(text);
+    let stop = line_end(text, line.at);
+    let sizes = numbers_at(text, line.at, stop, true);
     Header {
         fine: banner.fine,
         integer: banner.integer,
@@ -67,8 +64,8 @@ pub fn header_of(text: &[u8]) -> Header
         m: sizes.first,
         n: sizes.second,
         nonzeros: sizes.third,
-        at,
-        next,
+        at: line.at,
+        next: line.next,
     }
 }
 

@@ -1,4 +1,5 @@
 // Reading a Matrix Market text into a list of nonzeros.
+use model::Verdict;
 use model::Word;
 
 pub mod entries;
@@ -22,6 +23,12 @@ pub struct Header {
     pub nonzeros: u32,
     pub at: usize,
     pub next: usize,
+}
+
+// How far the entries are noted: the last line's verdict, and the number of entries before the next line.
+pub struct Progress {
+    pub verdict: Verdict,
+    pub count: usize,
 }
 
 // A reading's answer: sizes and format, or a refusal.

@@ -1,6 +1,5 @@
 -- `texts::header_of` meets its contract.
 -- Assumes nothing.
-use mathlib.Core.Path.{_≡_, refl, sym, _∙_, ap}
 use Rattle.texts.specs.Header.{headerOf}
 use borrow.Author.Needs.{needs}
 use Rattle.texts.proofs.head.header_of.Statement.{statement}
@@ -12,20 +11,14 @@ line-end-requires c κs = search needs
 banner-at-requires : tie.Need-banner-at-requires
 banner-at-requires c κs = search needs
 
-line-after-requires : tie.Need-line-after-requires
-line-after-requires c κs = search needs
-
-size-line-at-requires : tie.Need-size-line-at-requires
-size-line-at-requires c κs = search needs
+size-line-requires : tie.Need-size-line-requires
+size-line-requires c κs = search needs
 
 line-end-requires-2 : tie.Need-line-end-requires-2
 line-end-requires-2 c κs = search needs
 
 numbers-at-requires : tie.Need-numbers-at-requires
 numbers-at-requires c κs = search needs
-
-line-after-requires-2 : tie.Need-line-after-requires-2
-line-after-requires-2 c κs = search needs
 
 returns : tie.Need-returns
 unfolding headerOf
@@ -37,9 +30,7 @@ header-of-spec =
     (tie.spec
     line-end-requires
     banner-at-requires
-    line-after-requires
-    size-line-at-requires
+    size-line-requires
     line-end-requires-2
     numbers-at-requires
-    line-after-requires-2
     returns)
