@@ -1,2 +1,2 @@
-mod Called
+mod Walk
 pub mod Steps

@@ -28,7 +28,5 @@ pub fn try_once(search: &mut Search, m: u64, n: u64, nonzeros: u64, list: &[u8])
         × (now (search .exit) ≡ (runCall (now (search .entry)) m n nonzeros (now (list .entry)) 1) .search)
         × (runReply a ≡ runReplies (now (search .entry)) m n nonzeros (now (list .entry)) 1) ⌝ }
 {
-    let ran = search::run(*search, m, n, nonzeros, list, 1);
-    *search = ran.search;
-    ran.answer
+    run(search, m, n, nonzeros, list, 1)
 }
