@@ -16,7 +16,7 @@ use Rattle.model.specs.Pattern.{Pattern, Inside, patternOf, lines}
 use Rattle.model.specs.Split.{partNumber}
 use Rattle.model.specs.Marking.{Marking, taken}
 use Rattle.model.specs.Bound.{atStake, struck, L3, L4}
-use Rattle.matching.specs.Search.{Ground, ground, startFrom, startsOf, searchSize}
+use Rattle.matching.specs.Augmenting.{Ground, ground, startFrom, startsOf, searchSize}
 use Rattle.matching.proofs.Visits.Size.{start-small}
 use Rattle.matching.proofs.Paths.Greatest.{Arrays, matching-is-L4}
 use Rattle.marking.proofs.Ordered.{lines-of}

@@ -1,6 +1,6 @@
 // L3 and L4, from how lines lean.
 use marking::order::no_counts;
-use matching::search::matching_size;
+use matching::augmenting::matching_size;
 use weighing::striking::strike;
 use weighing::weights::weigh_lines;
 ghost use mathlib.Core.Path.{_≡_};
@@ -9,7 +9,7 @@ ghost use lib.Dec.{eqb};
 ghost use Rattle.counting.specs.Tests.{pick};
 ghost use Rattle.model.specs.Pattern.{patternOf};
 ghost use Rattle.weighing.specs.Cells.{markingIn};
-ghost use Rattle.matching.specs.Search.{ground, searchSize};
+ghost use Rattle.matching.specs.Augmenting.{ground, searchSize};
 ghost use Rattle.bound.specs.Evaluated.{Listed, LeansAt, Lowered};
 
 // L3 and L4.

@@ -7,7 +7,7 @@ use lib.ListN.{replicate}
 use Rattle.counting.specs.Tests.{_and_, _or_, pick, bit}
 use Rattle.counting.specs.Sums.{sum}
 use Rattle.model.specs.Pattern.{rowIn, columnIn, patternOf}
-use Rattle.matching.specs.Search.{Ground, ground, tally, visited, different, atOdds, entered, unseen, mateRow, elseGo, through, rowVia, handOver, columnStep, columnWithin, visitColumn, visitRow, noColumns, startFrom, startsOf, searchSize}
+use Rattle.matching.specs.Augmenting.{Ground, ground, tally, visited, different, atOdds, entered, unseen, mateRow, elseGo, through, rowVia, handOver, columnStep, columnWithin, visitColumn, visitRow, noColumns, startFrom, startsOf, searchSize}
 use Rattle.matching.specs.Starts.{rowStart}
 
 -- rows 0 and 1 lean to part 0, columns 0 and 1 to part 1; row 0 has both columns, row 1 has column 0

@@ -14,7 +14,7 @@ use Rattle.model.specs.Marking.{Marking}
 use Rattle.model.proofs.Matching.Mates.{Matching, joined}
 use Rattle.model.proofs.Matching.Swap.{withMate, with-cases, leave-out, put-in, swap-last, swap-more, swap-same}
 use Rattle.model.proofs.Matching.Same.{matching-same, matched-same, with-swap}
-use Rattle.matching.specs.Search.{Visited, visited, entered, handOver}
+use Rattle.matching.specs.Augmenting.{Visited, visited, entered, handOver}
 use Rattle.matching.proofs.Visits.Steps.{hand-found, hand-not}
 use Rattle.matching.proofs.Paths.Entered.{entered-apart, entered-same, entered-stays, entered-only}
 use Rattle.matching.proofs.Paths.Outcome.{mates, mates-set, with-agree, Lost, Won, RowPost, ColumnPost, lost-none}

@@ -9,7 +9,7 @@ use lib.ListN.{set, getD-replicate}
 use lib.Seq.{getD-set-same, getD-set-other}
 use borrow.Author.Tests.{eqb-true, eqb-false}
 use Rattle.counting.proofs.Joined.{by-test, clash}
-use Rattle.matching.specs.Search.{entered, noColumns}
+use Rattle.matching.specs.Augmenting.{entered, noColumns}
 use Rattle.matching.proofs.Visits.Steps.{entered-inside}
 
 -- a column that was entered is not one that was not

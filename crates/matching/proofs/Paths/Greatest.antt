@@ -15,7 +15,7 @@ use Rattle.model.specs.Marking.{Marking}
 use Rattle.model.specs.Bound.{leans, L4}
 use Rattle.model.proofs.Matching.Mates.{matched}
 use Rattle.model.proofs.Matching.Greatest.{Greatest, greatest-none, greatest-is-L4}
-use Rattle.matching.specs.Search.{Ground, ground, noColumns, Tally, startsOf, searchSize}
+use Rattle.matching.specs.Augmenting.{Ground, ground, noColumns, Tally, startsOf, searchSize}
 use Rattle.matching.specs.Starts.{rowStart}
 use Rattle.matching.proofs.Visits.Size.{none-long}
 use Rattle.matching.proofs.Rows.Sorted.{Sorted, Rising, sorted-rising}

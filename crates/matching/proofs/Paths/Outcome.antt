@@ -16,7 +16,7 @@ use Rattle.model.specs.Pattern.{Pattern}
 use Rattle.model.specs.Marking.{Marking}
 use Rattle.model.proofs.Matching.Mates.{Matching, joined, matched}
 use Rattle.model.proofs.Matching.Swap.{withMate, with-same, with-other}
-use Rattle.matching.specs.Search.{Visited, entered}
+use Rattle.matching.specs.Augmenting.{Visited, entered}
 
 -- the mates of an array, for every column
 abbrev pub mates : List ℕ → ℕ → ℕ

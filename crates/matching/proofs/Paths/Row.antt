@@ -14,7 +14,7 @@ use Rattle.counting.proofs.Joined.{no-way, by-test, clash}
 use Rattle.model.specs.Pattern.{Pattern, Inside, columnIn}
 use Rattle.model.specs.Marking.{Marking}
 use Rattle.model.proofs.Matching.Mates.{Matching, joined, joined-row-in, joined-column-in}
-use Rattle.matching.specs.Search.{Ground, Visited, visited, atOdds, entered, unseen, mateRow, through, rowVia, handOver, visitColumn, visitRow}
+use Rattle.matching.specs.Augmenting.{Ground, Visited, visited, atOdds, entered, unseen, mateRow, through, rowVia, handOver, visitColumn, visitRow}
 use Rattle.matching.proofs.Rows.Sorted.{Sorted}
 use Rattle.matching.proofs.Visits.Steps.{through-skip, through-found, through-on, through-none, column-entered, column-free, column-held, unseen-set}
 use Rattle.matching.proofs.Visits.Enough.{visit-tame, column-law, none-left}

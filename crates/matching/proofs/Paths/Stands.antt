@@ -13,7 +13,7 @@ use Rattle.model.specs.Pattern.{Pattern, Inside, lines, rowLine, columnLine, co
 use Rattle.model.specs.Marking.{Marking}
 use Rattle.model.specs.Bound.{leans, conflict}
 use Rattle.model.proofs.Matching.Mates.{joined, joined-by, joined-meeting, meeting-conflict, meeting-row, meeting-column}
-use Rattle.matching.specs.Search.{Ground, different, atOdds}
+use Rattle.matching.specs.Augmenting.{Ground, different, atOdds}
 use Rattle.matching.specs.Starts.{rowStart}
 use Rattle.matching.proofs.Rows.Sorted.{Sorted, start-mono, between-below, between-row}
 

@@ -18,7 +18,7 @@ use Rattle.model.proofs.Matching.Greatest.{Greatest, start-succeeds, row-withou
 use Rattle.model.proofs.Matching.Start.{Stuck, start-fails}
 use Rattle.model.proofs.Matching.Swap.{withMate, with-other}
 use Rattle.model.proofs.Matching.Same.{matching-same}
-use Rattle.matching.specs.Search.{Ground, entered, unseen, visitRow, noColumns, Tally, tally, startFrom}
+use Rattle.matching.specs.Augmenting.{Ground, entered, unseen, visitRow, noColumns, Tally, tally, startFrom}
 use Rattle.matching.proofs.Rows.Sorted.{Sorted}
 use Rattle.matching.proofs.Paths.Entered.{none-entered, outside-entered}
 use Rattle.matching.proofs.Paths.Stands.{Stands, passed-alone}

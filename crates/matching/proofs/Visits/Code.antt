@@ -7,7 +7,7 @@ use Prim.Native.Nat.{ℕ, suc, _+_, _-_, _%_, _≤_, _<_}
 use native.Mathlib.Omega.{arith}
 use lib.ListN.{length, getD, set}
 use Rattle.model.specs.Pattern.{columnIn}
-use Rattle.matching.specs.Search.{Ground, Visited, visited, atOdds, unseen, mateRow, through, rowVia, handOver, columnStep, visitColumn, visitRow}
+use Rattle.matching.specs.Augmenting.{Ground, Visited, visited, atOdds, unseen, mateRow, through, rowVia, handOver, columnStep, visitColumn, visitRow}
 use Rattle.matching.proofs.Visits.Steps.{through-skip, through-found, through-on, through-none, column-entered, column-free, column-held, hand-found, hand-not, not-entered, is-entered, unseen-set}
 use Rattle.matching.proofs.Visits.Enough.{visit-tame, row-tame, column-law}
 

@@ -10,7 +10,7 @@ use lib.ListN.{length, getD, set, length-set}
 use borrow.Author.Tests.{eqb-true, eqb-false}
 use Rattle.counting.proofs.Joined.{no-way, by-test}
 use Rattle.model.specs.Pattern.{columnIn}
-use Rattle.matching.specs.Search.{Ground, Visited, Visit, atOdds, entered, unseen, mateRow, through, rowVia, handOver, columnStep, columnWithin, visitColumn}
+use Rattle.matching.specs.Augmenting.{Ground, Visited, Visit, atOdds, entered, unseen, mateRow, through, rowVia, handOver, columnStep, columnWithin, visitColumn}
 use Rattle.matching.proofs.Visits.Steps.{through-skip, through-found, through-on, through-none, column-entered, column-free, column-held, hand-seen, unseen-set}
 
 -- no more columns are to be entered than were, and the array has the length that it had

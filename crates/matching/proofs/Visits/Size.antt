@@ -11,7 +11,7 @@ use lib.ListN.{length, getD, length-replicate}
 use borrow.Author.Tests.{lt-ltb, le-ltb}
 use Rattle.counting.specs.Tests.{bit}
 use Rattle.counting.proofs.Joined.{by-test, pick-true, pick-false, bit-true, bit-false, bit-le-one}
-use Rattle.matching.specs.Search.{Ground, Visited, visited, visitRow, noColumns, Tally, tally, startFrom, startsOf, searchSize}
+use Rattle.matching.specs.Augmenting.{Ground, Visited, visited, visitRow, noColumns, Tally, tally, startFrom, startsOf, searchSize}
 
 -- the array of no columns
 pub none-long : length noColumns ≡ 256

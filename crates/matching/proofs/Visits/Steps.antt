@@ -11,7 +11,7 @@ use borrow.Author.Tests.{ltb-false, eq-eqb, ne-eqb}
 use Rattle.counting.specs.Tests.{pick}
 use Rattle.counting.proofs.Joined.{no-way, by-test, clash, pick-true, pick-false, bit-true, bit-false}
 use Rattle.model.specs.Pattern.{columnIn}
-use Rattle.matching.specs.Search.{Ground, Visited, visited, Visit, atOdds, entered, unseen, mateRow, elseGo, through, rowVia, handOver, columnStep}
+use Rattle.matching.specs.Augmenting.{Ground, Visited, visited, Visit, atOdds, entered, unseen, mateRow, elseGo, through, rowVia, handOver, columnStep}
 
 -- the column of nonzero t is not at odds with the row
 pub through-skip :

@@ -5,7 +5,7 @@ use borrow.Author.Tests.{eq-eqb, ne-eqb}
 use mathlib.Core.Path.{_≡_, sym, _∙_}
 use native.Mathlib.Omega.{arith}
 use Rattle.counting.proofs.Joined.{pick-true, pick-false}
-use Rattle.matching.specs.Search.{ground, searchSize}
+use Rattle.matching.specs.Augmenting.{ground, searchSize}
 use Rattle.bound.proofs.Lowers.{search-most}
 use Rattle.bound.proofs.lower.matched_of.Statement.{statement}
 use Rattle.bound.proofs.lower.matched_of.Tie as tie

@@ -1,12 +1,12 @@
--- `matching::search::differ` meets its contract.
+-- `matching::augmenting::differ` meets its contract.
 -- Assumes nothing.
 use mathlib.Core.Bool.{Bool, true, false}
 use mathlib.Core.Path.{_≡_, refl}
 use borrow.Author.Tests.{eq-eqb, ne-eqb}
 use Rattle.counting.specs.Tests.{_and_, _or_}
-use Rattle.matching.specs.Search.{different}
-use Rattle.matching.proofs.search.differ.Statement.{statement}
-use Rattle.matching.proofs.search.differ.Tie as tie
+use Rattle.matching.specs.Augmenting.{different}
+use Rattle.matching.proofs.augmenting.differ.Statement.{statement}
+use Rattle.matching.proofs.augmenting.differ.Tie as tie
 
 or-none : (b : Bool) → b ≡ b or false
 unfolding _or_

@@ -1,13 +1,13 @@
--- `matching::search::matching_size` meets its contract. The loop's invariant: the size and the mates are those of the starts from the rows passed. The measure is what is left of the rows.
+-- `matching::augmenting::matching_size` meets its contract. The loop's invariant: the size and the mates are those of the starts from the rows passed. The measure is what is left of the rows.
 -- Assumes nothing.
 use borrow.Author.Needs.{needs}
 use mathlib.Core.Path.{_≡_}
 use Prim.Native.Nat.{_≤_, _-_}
 use native.Mathlib.Omega.{arith}
-use Rattle.matching.specs.Search.{ground, tally, startsOf}
+use Rattle.matching.specs.Augmenting.{ground, tally, startsOf}
 use Rattle.matching.proofs.Visits.Size.{start-small, starts-begin, starts-more, starts-end}
-use Rattle.matching.proofs.search.matching_size.Statement.{statement}
-use Rattle.matching.proofs.search.matching_size.Tie as tie
+use Rattle.matching.proofs.augmenting.matching_size.Statement.{statement}
+use Rattle.matching.proofs.augmenting.matching_size.Tie as tie
 
 abbrev Inv-loop : tie.InvT-loop
 Inv-loop m lean list starts mate₀ size₀ i₀ mate size i =

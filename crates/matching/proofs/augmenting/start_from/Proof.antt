@@ -1,13 +1,13 @@
--- `matching::search::start_from` meets its contract.
+-- `matching::augmenting::start_from` meets its contract.
 -- Assumes nothing.
 use borrow.Author.Needs.{needs}
 use mathlib.Core.Path.{_∙_, ap}
 use native.Mathlib.Omega.{arith}
 use lib.ListN.{length}
-use Rattle.matching.specs.Search.{ground}
+use Rattle.matching.specs.Augmenting.{ground}
 use Rattle.matching.proofs.Visits.Size.{none-long, start-passed, start-found, start-not}
-use Rattle.matching.proofs.search.start_from.Statement.{statement}
-use Rattle.matching.proofs.search.start_from.Tie as tie
+use Rattle.matching.proofs.augmenting.start_from.Statement.{statement}
+use Rattle.matching.proofs.augmenting.start_from.Tie as tie
 
 wide-requires : tie.Need-wide-requires
 wide-requires c κs = search needs

@@ -1,9 +1,9 @@
--- `matching::search::at_odds` meets its contract.
+-- `matching::augmenting::at_odds` meets its contract.
 -- Assumes nothing.
 use borrow.Author.Needs.{needs}
-use Rattle.matching.specs.Search.{atOdds}
-use Rattle.matching.proofs.search.at_odds.Statement.{statement}
-use Rattle.matching.proofs.search.at_odds.Tie as tie
+use Rattle.matching.specs.Augmenting.{atOdds}
+use Rattle.matching.proofs.augmenting.at_odds.Statement.{statement}
+use Rattle.matching.proofs.augmenting.at_odds.Tie as tie
 
 wide-requires : tie.Need-wide-requires
 wide-requires c κs = search needs

@@ -5,7 +5,7 @@ use pattern::reading::wide;
 ghost use mathlib.Core.Path.{_≡_};
 ghost use Prim.Native.Nat.{_+_};
 ghost use lib.ListN.{length, getD};
-ghost use Rattle.matching.specs.Search.{ground, visited, different, atOdds, visitColumn, visitRow, noColumns, tally, startFrom, searchSize};
+ghost use Rattle.matching.specs.Augmenting.{ground, visited, different, atOdds, visitColumn, visitRow, noColumns, tally, startFrom, searchSize};
 
 // One leans to part 0 and the other to part 1.
 fn differ(a: u8, b: u8) -> bool

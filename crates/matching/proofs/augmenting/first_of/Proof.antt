@@ -1,8 +1,8 @@
--- `matching::search::first_of` meets its contract.
+-- `matching::augmenting::first_of` meets its contract.
 -- Assumes nothing.
 use borrow.Author.Needs.{needs}
-use Rattle.matching.proofs.search.first_of.Statement.{statement}
-use Rattle.matching.proofs.search.first_of.Tie as tie
+use Rattle.matching.proofs.augmenting.first_of.Statement.{statement}
+use Rattle.matching.proofs.augmenting.first_of.Tie as tie
 
 wide-requires : tie.Need-wide-requires
 wide-requires c κs = search needs

@@ -1,4 +1,4 @@
--- `matching::search::column_visit` and `matching::search::row_visit`, which call each other, meet their contracts. What each need says of the two visits stands in Visits.Code.
+-- `matching::augmenting::column_visit` and `matching::augmenting::row_visit`, which call each other, meet their contracts. What each need says of the two visits stands in Visits.Code.
 -- The measure is twice the columns that are not entered, and one more for a row. The loop's invariant: what is left of the row's nonzeros decides the visit.
 -- Assumes nothing.
 use borrow.Author.Needs.{needs}
@@ -7,23 +7,23 @@ use mathlib.Core.Path.{_≡_, _∙_, ap}
 use mathlib.Core.Logic.{⊎-elim}
 use native.Mathlib.Omega.{arith}
 use lib.ListN.{length, length-set}
-use Rattle.matching.specs.Search.{ground, unseen, through, visitColumn, visitRow}
+use Rattle.matching.specs.Augmenting.{ground, unseen, through, visitColumn, visitRow}
 use Rattle.matching.proofs.Visits.Code.{column-long, column-fewer, enter-fewer, at-entered, at-free, at-found, at-not, row-begins, row-ends, turn-skips, turn-found, turn-goes}
 use borrow.Fn.Kinds.{In}
 use borrow.Fn.PlainCycle.{Measures, is, falls, and}
-use Rattle.matching.proofs.search.column_visit.Reads as column-visit
-use Rattle.matching.proofs.search.column_visit.Kinds as column-visit-kinds
-use Rattle.matching.proofs.search.+column_visit+row_visit.Lts-column_visit as column-visit-lts
-use Rattle.matching.proofs.search.row_visit.Reads as row-visit
-use Rattle.matching.proofs.search.row_visit.Kinds as row-visit-kinds
-use Rattle.matching.proofs.search.+column_visit+row_visit.Lts-row_visit as row-visit-lts
-use Rattle.matching.proofs.search.at_odds.Reads as at-odds-reads
-use Rattle.matching.proofs.search.end_of.Reads as end-of-reads
-use Rattle.matching.proofs.search.first_of.Reads as first-of-reads
+use Rattle.matching.proofs.augmenting.column_visit.Reads as column-visit
+use Rattle.matching.proofs.augmenting.column_visit.Kinds as column-visit-kinds
+use Rattle.matching.proofs.augmenting.+column_visit+row_visit.Lts-column_visit as column-visit-lts
+use Rattle.matching.proofs.augmenting.row_visit.Reads as row-visit
+use Rattle.matching.proofs.augmenting.row_visit.Kinds as row-visit-kinds
+use Rattle.matching.proofs.augmenting.+column_visit+row_visit.Lts-row_visit as row-visit-lts
+use Rattle.matching.proofs.augmenting.at_odds.Reads as at-odds-reads
+use Rattle.matching.proofs.augmenting.end_of.Reads as end-of-reads
+use Rattle.matching.proofs.augmenting.first_of.Reads as first-of-reads
 use Rattle.pattern.proofs.reading.column_of.Reads as column-of-reads
 use Rattle.pattern.proofs.reading.wide.Reads as wide-reads
-use Rattle.matching.proofs.search.+column_visit+row_visit.{statement}
-use Rattle.matching.proofs.search.+column_visit+row_visit.Tie.{close}
+use Rattle.matching.proofs.augmenting.+column_visit+row_visit.{statement}
+use Rattle.matching.proofs.augmenting.+column_visit+row_visit.Tie.{close}
 
 abbrev μ-column-visit : Measures 5 column-visit-kinds.ps ℕ
 μ-column-visit κs a = 2 * unseen (a .1 .1 .1 .1 .1 .1 .0 .now)
