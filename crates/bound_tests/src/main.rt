@@ -4,61 +4,38 @@ use bound::evaluating::evaluate_lines;
 use bound::fresh::no_marks;
 use matching::starts::row_starts;
 use pattern::reading::long16;
-use weighing::cells::put_at;
-
-// The mark that a letter stands for: 0, 1, c for cut, any other letter for none.
-fn mark_of(letter: u8) -> u8 {
-    match letter {
-        b'0' => 0,
-        b'1' => 1,
-        b'c' => 2,
-        _ => 3,
-    }
-}
-
-// The marks of the first lines, from their letters.
-fn read_marks(text: &[u8], marks: &mut [u8; 512]) {
-    let mut l: usize = 0;
-    while l < text.len() {
-        put_at(marks, l, mark_of(text[l]));
-        l += 1;
-    }
-}
-
-// A word and a number.
-fn say(word: &[u8], x: u64) {
-    io::write_all(1, word);
-    io::print_decimal(1, x);
-}
+use testing::laying::lay_marks;
+use testing::saying::say;
+use testing::saying::say_number;
 
 // The bound of a valid marking, with its parts.
 fn say_bound(e: Evaluation) {
-    say(b" L1 ", long16(e.cut));
-    say(b" L2 ", long16(e.torn));
-    say(b" L3 ", long16(e.struck));
-    say(b" L4 ", e.matched);
-    say(b" bound ", e.bound);
+    say_number(b" L1 ", long16(e.cut));
+    say_number(b" L2 ", long16(e.torn));
+    say_number(b" L3 ", long16(e.struck));
+    say_number(b" L4 ", e.matched);
+    say_number(b" bound ", e.bound);
 }
 
 // An evaluation, on a line of its own.
 fn say_all(e: Evaluation) {
     let valid = e.valid;
-    say(b" valid ", if valid { 1 } else { 0 });
-    say(b" D0 ", long16(e.zero));
-    say(b" D1 ", long16(e.one));
+    say_number(b" valid ", if valid { 1 } else { 0 });
+    say_number(b" D0 ", long16(e.zero));
+    say_number(b" D1 ", long16(e.one));
     if valid {
         say_bound(e);
     }
-    io::write_all(1, b"\n");
+    say(b"\n");
 }
 
 // The evaluation of a marking that is given by letters.
 fn show(m: u8, n: u8, nonzeros: u16, list: &[u8], cap: u64, text: &[u8]) {
     let starts = row_starts(list, nonzeros);
     let mut marks = no_marks();
-    read_marks(text, &mut marks);
+    lay_marks(&mut marks, text);
     let e = evaluate_lines(m, n, nonzeros, list, cap, &starts, &marks);
-    io::write_all(1, text);
+    say(text);
     say_all(e);
 }
 

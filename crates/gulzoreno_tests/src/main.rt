@@ -1,23 +1,9 @@
 // Calls the C function on the worked samples, on each refusal and on short slices, and prints its answer and every byte of both output slices.
 // Before each call every byte of them is 7.
 use gulzoreno::gulzoreno_bipartition;
-use pattern::reading::long;
-
-// A word and a number.
-fn say(word: &[u8], x: u64) {
-    io::write_all(1, word);
-    io::print_decimal(1, x);
-}
-
-// A word and bytes.
-fn say_bytes(word: &[u8], bytes: &[u8]) {
-    io::write_all(1, word);
-    let mut i: usize = 0;
-    while i < bytes.len() {
-        say(b" ", long(bytes[i]));
-        i += 1;
-    }
-}
+use testing::saying::say;
+use testing::saying::say_bytes;
+use testing::saying::say_number;
 
 // One call with lent slices, on a line of its own.
 fn call(
@@ -32,13 +18,13 @@ fn call(
     figures: &mut [u8],
 ) {
     let answer = gulzoreno_bipartition(m, n, nonzeros, list, cap, budget, parts, figures);
-    io::write_all(1, name);
-    say(b": answer ", answer);
-    say(b" number ", answer % 256);
-    say(b" place ", answer / 256);
+    say(name);
+    say_number(b": answer ", answer);
+    say_number(b" number ", answer % 256);
+    say_number(b" place ", answer / 256);
     say_bytes(b" parts", parts);
     say_bytes(b" figures", figures);
-    io::write_all(1, b"\n");
+    say(b"\n");
 }
 
 // One call with room for 22 parts, and for a byte more than the figures.

@@ -1,27 +1,27 @@
 // Searches that are no state of the walk, one for each reason, and some that look odd and are states.
-use crate::comparing::put_same;
 use crate::given::Given;
 use crate::given::given_by;
 use crate::given::trail_of;
 use crate::going::after;
 use crate::going::fresh;
-use crate::saying::put;
-use crate::saying::put_marks;
-use crate::saying::put_run;
-use crate::saying::put_search;
-use crate::saying::put_show;
+use crate::saying::say_marks;
+use crate::saying::say_same;
+use crate::saying::say_search;
+use crate::saying::say_show;
 use model::Search;
+use testing::saying::say;
+use testing::saying::say_run;
 
 // What a showing answers, and its parts after it.
 fn shows(search: Search, given: Given) {
     let list = given.list;
     let mut parts = [9u8; 6];
     let answer = search::show(search, given.m, given.n, given.nonzeros, &list, &mut parts);
-    put(b", show");
-    put_show(answer, &parts, 4);
-    put(b" parts ");
-    put_marks(&parts, 6);
-    put(b"\n");
+    say(b", show");
+    say_show(answer, &parts, 4);
+    say(b" parts ");
+    say_marks(&parts, 6);
+    say(b"\n");
 }
 
 // What a run and a showing of a search answer.
@@ -29,11 +29,11 @@ fn tries(words: &[u8], search: Search, given: Given) {
     let list = given.list;
     let ran = search::run(search, given.m, given.n, given.nonzeros, &list, 1);
     let next = ran.search;
-    put(words);
-    put(b": run");
+    say(words);
+    say(b": run");
     let answer = ran.answer;
-    put_run(answer);
-    put_same(search, next);
+    say_run(answer);
+    say_same(search, next);
     shows(search, given);
 }
 
@@ -148,9 +148,9 @@ fn without_best(given: Given) {
 
 // States that look odd, which are accepted: each after a run of 0 tries.
 fn odd(words: &[u8], search: Search, given: Given) {
-    put(words);
-    put(b"\n");
-    put_search(after(search, given, 0), given);
+    say(words);
+    say(b"\n");
+    say_search(after(search, given, 0), given);
 }
 
 // A trail that is itself invalid, and a best marking that starts with 1.
@@ -176,9 +176,9 @@ fn odd_bytes(search: Search, given: Given) {
     let mut s = search;
     s.best = best;
     s.trail = trail;
-    put(b"marks past the lengths:");
-    put_same(search, after(s, given, 0));
-    put(b"\n");
+    say(b"marks past the lengths:");
+    say_same(search, after(s, given, 0));
+    say(b"\n");
 }
 
 // The greatest number of tries, after which a try more is refused.
@@ -214,5 +214,5 @@ pub(crate) fn all() {
     odd_bytes(search, given);
     most_tries(search, given);
     all_cut();
-    put(b"\n");
+    say(b"\n");
 }

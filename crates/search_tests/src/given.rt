@@ -1,5 +1,6 @@
 // Patterns and markings that are given by letters.
 use pattern::reading::byte_at;
+use testing::laying::lay_marks;
 use trail::Trail;
 
 // A pattern and a cap, as an opening is given them.
@@ -43,30 +44,10 @@ pub(crate) fn given_by(m: u64, n: u64, nonzeros: u64, cap: u64, cells: &[u8]) ->
     }
 }
 
-// The mark of a letter: 0, 1, c for cut, 3 for a byte that is no mark.
-fn mark_of(letter: u8) -> u8 {
-    match letter {
-        b'1' => 1,
-        b'c' => 2,
-        b'3' => 3,
-        _ => 0,
-    }
-}
-
-// The marks of letters, 0 past them.
-fn marks_of(letters: &[u8]) -> [u8; 240] {
-    let mut marks = [0u8; 240];
-    let mut i: usize = 0;
-    while i < 240 {
-        marks[i] = mark_of(byte_at(letters, i));
-        i += 1;
-    }
-    marks
-}
-
 // A marking given by its letters.
 pub(crate) fn trail_of(letters: &[u8]) -> Trail {
-    let marks = marks_of(letters);
+    let mut marks = [0u8; 240];
+    lay_marks(&mut marks, letters);
     Trail {
         marks,
         len: letters.len(),

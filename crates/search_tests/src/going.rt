@@ -1,9 +1,9 @@
 // Opening a search and running it piece by piece.
 use crate::given::Given;
-use crate::saying::put;
-use crate::saying::put_run;
-use crate::saying::say;
 use model::Search;
+use testing::saying::say;
+use testing::saying::say_number;
+use testing::saying::say_run;
 
 // A fresh search.
 pub(crate) fn fresh(given: Given) -> Search {
@@ -24,10 +24,10 @@ pub(crate) fn piece(search: Search, given: Given, budget: u64) -> Search {
     let list = given.list;
     let ran = search::run(search, given.m, given.n, given.nonzeros, &list, budget);
     let next = ran.search;
-    say(b"  run ", budget);
+    say_number(b"  run ", budget);
     let answer = ran.answer;
-    put_run(answer);
-    say(b" tries ", next.tries);
-    put(b"\n");
+    say_run(answer);
+    say_number(b" tries ", next.tries);
+    say(b"\n");
     next
 }

@@ -2,25 +2,25 @@
 use crate::given::given_by;
 use crate::going::fresh;
 use crate::going::piece;
-use crate::saying::put;
-use crate::saying::put_numbers;
-use crate::saying::put_opened;
-use crate::saying::put_show;
+use crate::saying::say_numbers;
+use crate::saying::say_opened;
+use crate::saying::say_show;
+use testing::saying::say;
 
 // Row 120, 121 rows, and no row.
 fn rows() {
-    put_opened(120, 1, 1, 1, &[119u8, 0]);
-    put_opened(121, 1, 1, 1, &[119u8, 0]);
-    put_opened(120, 1, 1, 1, &[120u8, 0]);
-    put_opened(0, 1, 0, 1, &[0u8, 0]);
+    say_opened(120, 1, 1, 1, &[119u8, 0]);
+    say_opened(121, 1, 1, 1, &[119u8, 0]);
+    say_opened(120, 1, 1, 1, &[120u8, 0]);
+    say_opened(0, 1, 0, 1, &[0u8, 0]);
 }
 
 // Column 120, 121 columns, and no column.
 fn columns() {
-    put_opened(1, 120, 1, 1, &[0u8, 119]);
-    put_opened(1, 121, 1, 1, &[0u8, 119]);
-    put_opened(1, 120, 1, 1, &[0u8, 120]);
-    put_opened(1, 0, 0, 1, &[0u8, 0]);
+    say_opened(1, 120, 1, 1, &[0u8, 119]);
+    say_opened(1, 121, 1, 1, &[0u8, 119]);
+    say_opened(1, 120, 1, 1, &[0u8, 120]);
+    say_opened(1, 0, 0, 1, &[0u8, 0]);
 }
 
 // The cells of 2,000 nonzeros, row by row in rows of 120.
@@ -38,14 +38,14 @@ fn long_list() -> [u8; 4000] {
 // 2,000 nonzeros, more than 2,000, more than cells, more than twice the cap, and the greatest cap.
 fn nonzeros() {
     let list = long_list();
-    put_opened(120, 120, 2_000, 1_000, &list);
-    put_opened(120, 120, 2_000, 999, &list);
-    put_opened(120, 120, 2_001, 1_001, &list);
-    put_opened(16, 125, 2_000, 1_000, &list);
-    put_opened(17, 117, 2_000, 1_000, &list);
-    put_opened(2, 2, 5, 3, &list);
-    put_opened(1, 1, 1, 2_000, &list);
-    put_opened(1, 1, 1, 2_001, &list);
+    say_opened(120, 120, 2_000, 1_000, &list);
+    say_opened(120, 120, 2_000, 999, &list);
+    say_opened(120, 120, 2_001, 1_001, &list);
+    say_opened(16, 125, 2_000, 1_000, &list);
+    say_opened(17, 117, 2_000, 1_000, &list);
+    say_opened(2, 2, 5, 3, &list);
+    say_opened(1, 1, 1, 2_000, &list);
+    say_opened(1, 1, 1, 2_001, &list);
 }
 
 // A search of 2,000 nonzeros after 100 tries.
@@ -57,9 +57,9 @@ fn long_search() {
     let next = ran.search;
     let mut parts = [9u8; 2000];
     let answer = search::show(next, 120, 120, 2_000, &list, &mut parts);
-    put_numbers(next);
-    put_show(answer, &parts, 2000);
-    put(b"\n");
+    say_numbers(next);
+    say_show(answer, &parts, 2000);
+    say(b"\n");
 }
 
 // Budgets on both sides of the limit, on a fresh search and on the complete one.
@@ -79,5 +79,5 @@ pub(crate) fn all() {
     nonzeros();
     long_search();
     budgets();
-    put(b"\n");
+    say(b"\n");
 }

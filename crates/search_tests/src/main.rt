@@ -1,5 +1,4 @@
 // Prints what openings, runs and showings answer, in the words of the list of expected walks.
-mod comparing;
 mod damaged;
 mod given;
 mod going;

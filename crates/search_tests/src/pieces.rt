@@ -1,23 +1,23 @@
 // One search run in pieces of different budgets, with refused calls between them: each ends at the same record.
-use crate::comparing::put_same;
 use crate::given::Given;
 use crate::given::given_by;
 use crate::going::fresh;
 use crate::going::piece;
-use crate::saying::put;
-use crate::saying::put_run;
-use crate::saying::put_search;
-use crate::saying::put_show;
+use crate::saying::say_same;
+use crate::saying::say_search;
+use crate::saying::say_show;
 use model::Search;
+use testing::saying::say;
+use testing::saying::say_run;
 
 // A run on a list whose nonzero 1 is off the matrix.
 fn off_matrix(search: Search, given: Given) -> Search {
     let mut list = given.list;
     list[2] = 200;
     let ran = search::run(search, given.m, given.n, given.nonzeros, &list, 5);
-    put(b"  run off matrix");
+    say(b"  run off matrix");
     let answer = ran.answer;
-    put_run(answer);
+    say_run(answer);
     ran.search
 }
 
@@ -26,8 +26,8 @@ fn short_parts(search: Search, given: Given) {
     let list = given.list;
     let mut parts = [9u8; 21];
     let answer = search::show(search, given.m, given.n, given.nonzeros, &list, &mut parts);
-    put(b", show short parts");
-    put_show(answer, &parts, 21);
+    say(b", show short parts");
+    say_show(answer, &parts, 21);
 }
 
 // Refused calls, which change nothing.
@@ -35,8 +35,8 @@ fn refused(search: Search, given: Given) -> Search {
     let over = piece(search, given, 1_000_001);
     let off = off_matrix(over, given);
     short_parts(off, given);
-    put_same(search, off);
-    put(b"\n");
+    say_same(search, off);
+    say(b"\n");
     off
 }
 
@@ -44,7 +44,7 @@ fn refused(search: Search, given: Given) -> Search {
 fn whole(given: Given) {
     let search = fresh(given);
     let last = piece(search, given, 1_000_000);
-    put_search(last, given);
+    say_search(last, given);
 }
 
 // The last try alone.
@@ -52,7 +52,7 @@ fn last_alone(given: Given) {
     let search = fresh(given);
     let most = piece(search, given, 166);
     let last = piece(most, given, 1);
-    put_search(last, given);
+    say_search(last, given);
 }
 
 // Five pieces, with refused calls after each of the first four.
@@ -62,7 +62,7 @@ fn five(given: Given) {
     let c = refused(piece(b, given, 0), given);
     let d = refused(piece(c, given, 59), given);
     let e = piece(d, given, 107);
-    put_search(e, given);
+    say_search(e, given);
 }
 
 // Pieces that go past the end, with refused calls on the complete search.
@@ -71,7 +71,7 @@ fn past_the_end(given: Given) {
     let b = piece(a, given, 1_000);
     let c = refused(b, given);
     let d = piece(c, given, 7);
-    put_search(d, given);
+    say_search(d, given);
 }
 
 // Each way to the end of one search.
@@ -87,5 +87,5 @@ pub(crate) fn all() {
     last_alone(given);
     five(given);
     past_the_end(given);
-    put(b"\n");
+    say(b"\n");
 }

@@ -1,17 +1,17 @@
 // Each refusal's number and place, for an opening, a run and a showing, and which of two refusals counts.
-use crate::comparing::put_same;
 use crate::given::Given;
 use crate::given::given_by;
 use crate::going::after;
 use crate::going::fresh;
 use crate::going::piece;
-use crate::saying::put;
-use crate::saying::put_marks;
-use crate::saying::put_opened;
-use crate::saying::put_run;
-use crate::saying::put_show;
-use crate::saying::put_verdict;
+use crate::saying::say_marks;
+use crate::saying::say_opened;
+use crate::saying::say_same;
+use crate::saying::say_show;
+use crate::saying::say_verdict;
 use model::Search;
+use testing::saying::say;
+use testing::saying::say_run;
 
 // A search of the 3 by 3 diagonal under cap 2.
 fn diagonal() -> Search {
@@ -23,8 +23,8 @@ fn diagonal() -> Search {
 fn opens_on(m: u64, n: u64, nonzeros: u64, list: &[u8]) {
     let opened = search::open(m, n, nonzeros, list, 2);
     let verdict = opened.verdict;
-    put(b": open");
-    put_verdict(verdict);
+    say(b": open");
+    say_verdict(verdict);
 }
 
 // What a run answers to a list.
@@ -33,25 +33,25 @@ fn runs_on(m: u64, n: u64, nonzeros: u64, list: &[u8]) {
     let ran = search::run(search, m, n, nonzeros, list, 1);
     let answer = ran.answer;
     let next = ran.search;
-    put(b", run");
-    put_run(answer);
-    put_same(search, next);
+    say(b", run");
+    say_run(answer);
+    say_same(search, next);
 }
 
 // What a showing answers to a list.
 fn shows_on(m: u64, n: u64, nonzeros: u64, list: &[u8]) {
     let mut parts = [9u8; 4];
     let answer = search::show(diagonal(), m, n, nonzeros, list, &mut parts);
-    put(b", show");
-    put_show(answer, &parts, 3);
-    put(b" parts ");
-    put_marks(&parts, 4);
-    put(b"\n");
+    say(b", show");
+    say_show(answer, &parts, 3);
+    say(b" parts ");
+    say_marks(&parts, 4);
+    say(b"\n");
 }
 
 // What an opening, a run and a showing answer to a list.
 fn list_of(words: &[u8], m: u64, n: u64, nonzeros: u64, list: &[u8]) {
-    put(words);
+    say(words);
     opens_on(m, n, nonzeros, list);
     runs_on(m, n, nonzeros, list);
     shows_on(m, n, nonzeros, list);
@@ -108,16 +108,16 @@ fn first_counts() {
 
 // 11 and 12.
 fn caps() {
-    put_opened(3, 3, 3, 2_001, &[0u8, 0, 1, 1, 2, 2]);
-    put_opened(3, 3, 3, 1, &[0u8, 0, 1, 1, 2, 2]);
-    put_opened(3, 3, 3, 2, &[0u8, 0, 1, 1, 2, 2]);
+    say_opened(3, 3, 3, 2_001, &[0u8, 0, 1, 1, 2, 2]);
+    say_opened(3, 3, 3, 1, &[0u8, 0, 1, 1, 2, 2]);
+    say_opened(3, 3, 3, 2, &[0u8, 0, 1, 1, 2, 2]);
 }
 
 // 11 and 12 after the list, and the greatest cap that a call can give.
 fn late_caps() {
-    put_opened(3, 3, 3, 2_001, &[0u8, 0, 1, 1, 1, 1]);
-    put_opened(3, 3, 3, 1, &[0u8, 0, 1, 1, 1, 1]);
-    put_opened(3, 3, 3, 18_446_744_073_709_551_615, &[0u8, 0, 1, 1, 2, 2]);
+    say_opened(3, 3, 3, 2_001, &[0u8, 0, 1, 1, 1, 1]);
+    say_opened(3, 3, 3, 1, &[0u8, 0, 1, 1, 1, 1]);
+    say_opened(3, 3, 3, 18_446_744_073_709_551_615, &[0u8, 0, 1, 1, 2, 2]);
 }
 
 // 13, and 14 before it.
@@ -137,12 +137,12 @@ fn budgets(given: Given) {
 fn shows(words: &[u8], search: Search, given: Given, parts: &mut [u8]) {
     let list = given.list;
     let answer = search::show(search, given.m, given.n, given.nonzeros, &list, parts);
-    put(words);
-    put(b":");
-    put_show(answer, parts, 3);
-    put(b" parts ");
-    put_marks(parts, parts.len());
-    put(b"\n");
+    say(words);
+    say(b":");
+    say_show(answer, parts, 3);
+    say(b" parts ");
+    say_marks(parts, parts.len());
+    say(b"\n");
 }
 
 // 9 for the parts, and 14 before it.

@@ -1,23 +1,23 @@
 // The sample patterns of document 01, and the least patterns on which a shortcut gives a false minimum.
-use crate::saying::put;
-use crate::saying::put_opened;
-use crate::saying::put_refused;
-use crate::saying::say;
+use crate::saying::say_opened;
 use crate::walks::walk_of;
 use model::CapAnswer;
 use pattern::cap::cap_from_percent;
+use testing::saying::say;
+use testing::saying::say_number;
+use testing::saying::say_refused;
 
 // The cap from a percentage.
 fn cap_of(nonzeros: u64, percent: u64) {
     let answer = cap_from_percent(nonzeros, percent);
-    say(b"cap from ", nonzeros);
-    say(b" at ", percent);
-    put(b" percent");
+    say_number(b"cap from ", nonzeros);
+    say_number(b" at ", percent);
+    say(b" percent");
     match answer {
-        CapAnswer::Capped(cap) => say(b" ", cap),
-        CapAnswer::Refused(word, place) => put_refused(word, place),
+        CapAnswer::Capped(cap) => say_number(b" ", cap),
+        CapAnswer::Refused(word, place) => say_refused(word, place),
     }
-    put(b"\n");
+    say(b"\n");
 }
 
 // Caps from percentages.
@@ -29,19 +29,19 @@ fn caps() {
     cap_of(2_001, 100);
     cap_of(2_000, 101);
     cap_of(2_001, 101);
-    put(b"\n");
+    say(b"\n");
 }
 
 // One nonzero, the diagonal, full patterns and a pattern without nonzeros.
 fn patterns() {
     walk_of(1, 1, 1, 1, b"0,0");
-    put_opened(1, 1, 1, 0, &[0u8, 0]);
-    put(b"\n");
+    say_opened(1, 1, 1, 0, &[0u8, 0]);
+    say(b"\n");
     walk_of(2, 2, 2, 1, b"0,0 1,1");
     walk_of(2, 2, 4, 2, b"0,0 0,1 1,0 1,1");
     walk_of(1, 3, 3, 2, b"0,0 0,1 0,2");
-    put_opened(1, 3, 3, 1, &[0u8, 0, 0, 1, 0, 2]);
-    put(b"\n");
+    say_opened(1, 3, 3, 1, &[0u8, 0, 0, 1, 0, 2]);
+    say(b"\n");
     walk_of(2, 3, 0, 0, b"");
 }
 

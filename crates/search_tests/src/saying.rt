@@ -1,150 +1,132 @@
 // What the program prints of answers and searches.
 use crate::given::Given;
-use model::RunAnswer;
 use model::Search;
 use model::ShowAnswer;
 use model::Verdict;
-use model::Word;
 use pattern::reading::byte_at;
-use pattern::refusals::refusal_number;
+use testing::comparing::same_search;
+use testing::saying::say;
+use testing::saying::say_number;
+use testing::saying::say_refused;
+use testing::saying::say_which;
 use trail::Trail;
 
-// A word and a number.
-pub(crate) fn say(word: &[u8], x: u64) {
-    io::write_all(1, word);
-    io::print_decimal(1, x);
-}
-
-// Words alone.
-pub(crate) fn put(words: &[u8]) {
-    io::write_all(1, words);
-}
-
 // A mark or a part, or 9 for a byte that a call has not written.
-fn put_mark(mark: u8) {
+fn say_mark(mark: u8) {
     match mark {
-        0 => put(b"0"),
-        1 => put(b"1"),
-        2 => put(b"c"),
-        9 => put(b"9"),
-        _ => put(b"?"),
+        0 => say(b"0"),
+        1 => say(b"1"),
+        2 => say(b"c"),
+        9 => say(b"9"),
+        _ => say(b"?"),
     }
 }
 
 // The first marks or parts of some bytes.
-pub(crate) fn put_marks(bytes: &[u8], len: usize) {
+pub(crate) fn say_marks(bytes: &[u8], len: usize) {
     let mut i: usize = 0;
     while i < len {
-        put_mark(byte_at(bytes, i));
+        say_mark(byte_at(bytes, i));
         i += 1;
     }
 }
 
 // The marks of a marking, or a full stop where it has none.
-fn put_trail(trail: Trail) {
+fn say_trail(trail: Trail) {
     let marks = trail.marks;
     let len = trail.len;
     if len == 0 {
-        put(b".");
+        say(b".");
     } else {
-        put_marks(&marks, len);
+        say_marks(&marks, len);
     }
 }
 
-// A refusal with its place.
-pub(crate) fn put_refused(word: Word, place: u64) {
-    say(b" refused ", refusal_number(word));
-    say(b" at ", place);
-}
-
 // What an opening answers.
-pub(crate) fn put_verdict(verdict: Verdict) {
+pub(crate) fn say_verdict(verdict: Verdict) {
     match verdict {
-        Verdict::Accepted => put(b" accepted"),
-        Verdict::Refused(word, place) => put_refused(word, place),
+        Verdict::Accepted => say(b" accepted"),
+        Verdict::Refused(word, place) => say_refused(word, place),
     }
 }
 
 // What an opening of a pattern answers, on a line of its own.
-pub(crate) fn put_opened(m: u64, n: u64, nonzeros: u64, cap: u64, list: &[u8]) {
+pub(crate) fn say_opened(m: u64, n: u64, nonzeros: u64, cap: u64, list: &[u8]) {
     let opened = search::open(m, n, nonzeros, list, cap);
-    say(b"open ", m);
-    say(b" ", n);
-    say(b" ", nonzeros);
-    say(b" cap ", cap);
+    say_number(b"open ", m);
+    say_number(b" ", n);
+    say_number(b" ", nonzeros);
+    say_number(b" cap ", cap);
     let verdict = opened.verdict;
-    put_verdict(verdict);
-    put(b"\n");
-}
-
-// What a run answers.
-pub(crate) fn put_run(answer: RunAnswer) {
-    match answer {
-        RunAnswer::Complete => put(b" complete"),
-        RunAnswer::Stopped => put(b" stopped"),
-        RunAnswer::Refused(word, place) => put_refused(word, place),
-    }
+    say_verdict(verdict);
+    say(b"\n");
 }
 
 // What a showing answers, with the first bytes of its parts where it gives a split.
-pub(crate) fn put_show(answer: ShowAnswer, parts: &[u8], len: usize) {
+pub(crate) fn say_show(answer: ShowAnswer, parts: &[u8], len: usize) {
     match answer {
         ShowAnswer::Split { volume, floor } => {
-            say(b" floor ", floor);
-            say(b" volume ", volume);
-            put(b" split ");
-            put_marks(parts, len);
+            say_number(b" floor ", floor);
+            say_number(b" volume ", volume);
+            say(b" split ");
+            say_marks(parts, len);
         }
         ShowAnswer::NoneYet { floor } => {
-            say(b" floor ", floor);
-            put(b" none yet");
+            say_number(b" floor ", floor);
+            say(b" none yet");
         }
-        ShowAnswer::Refused(word, place) => put_refused(word, place),
+        ShowAnswer::Refused(word, place) => say_refused(word, place),
     }
 }
 
 // What is shown of a search.
-fn put_shown(search: Search, given: Given) {
+fn say_shown(search: Search, given: Given) {
     let list = given.list;
     let mut parts = [9u8; 64];
     let answer = search::show(search, given.m, given.n, given.nonzeros, &list, &mut parts);
-    put_show(answer, &parts, given.nonzeros as usize);
+    say_show(answer, &parts, given.nonzeros as usize);
 }
 
 // The best marking, or a dash where there is none.
-fn put_best(found: bool, best: Trail) {
+fn say_best(found: bool, best: Trail) {
     if found {
-        put_trail(best);
+        say_trail(best);
     } else {
-        put(b"-");
+        say(b"-");
     }
 }
 
 // Whether a search is complete.
-fn put_end(complete: bool) {
+fn say_end(complete: bool) {
     if complete {
-        put(b" complete");
+        say(b" complete");
     } else {
-        put(b" open");
+        say(b" open");
     }
 }
 
 // A search's record.
-pub(crate) fn put_numbers(search: Search) {
+pub(crate) fn say_numbers(search: Search) {
     let best = search.best;
     let trail = search.trail;
-    say(b"  tries ", search.tries);
-    say(b" best ", search.best_count);
-    put(b" bestmarking ");
-    put_best(search.found, best);
-    put_end(search.complete);
-    put(b" trail ");
-    put_trail(trail);
+    say_number(b"  tries ", search.tries);
+    say_number(b" best ", search.best_count);
+    say(b" bestmarking ");
+    say_best(search.found, best);
+    say_end(search.complete);
+    say(b" trail ");
+    say_trail(trail);
 }
 
 // A search's record and what is shown of it, on a line of its own.
-pub(crate) fn put_search(search: Search, given: Given) {
-    put_numbers(search);
-    put_shown(search, given);
-    put(b"\n");
+pub(crate) fn say_search(search: Search, given: Given) {
+    say_numbers(search);
+    say_shown(search, given);
+    say(b"\n");
+}
+
+// Says whether a search is as it was.
+pub(crate) fn say_same(before: Search, after: Search) {
+    let same = same_search(before, after);
+    say_which(same, b" unchanged", b" changed");
 }

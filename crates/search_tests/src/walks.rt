@@ -1,20 +1,20 @@
 // The walks of several patterns, each shown after 0, 1, 3, 7, 20 and 60 tries and where it is complete.
 use crate::given::Given;
 use crate::given::given_by;
-use crate::saying::put;
-use crate::saying::put_search;
-use crate::saying::say;
+use crate::saying::say_search;
 use model::Search;
+use testing::saying::say;
+use testing::saying::say_number;
 
 // A pattern's numbers and cells.
-fn put_pattern(m: u64, n: u64, nonzeros: u64, cap: u64, cells: &[u8]) {
-    say(b"pattern ", m);
-    say(b" ", n);
-    say(b" ", nonzeros);
-    say(b" cap ", cap);
-    put(b"\n  ");
-    put(cells);
-    put(b"\n");
+fn say_pattern(m: u64, n: u64, nonzeros: u64, cap: u64, cells: &[u8]) {
+    say_number(b"pattern ", m);
+    say_number(b" ", n);
+    say_number(b" ", nonzeros);
+    say_number(b" cap ", cap);
+    say(b"\n  ");
+    say(cells);
+    say(b"\n");
 }
 
 // The search after some tries more, shown if it was not complete before.
@@ -25,25 +25,25 @@ fn go_on(search: Search, given: Given, budget: u64) -> Search {
     let list = given.list;
     let ran = search::run(search, given.m, given.n, given.nonzeros, &list, budget);
     let next = ran.search;
-    put_search(next, given);
+    say_search(next, given);
     next
 }
 
 // The walk of a pattern from a fresh search until it is complete.
 pub(crate) fn walk_of(m: u64, n: u64, nonzeros: u64, cap: u64, cells: &[u8]) {
-    put_pattern(m, n, nonzeros, cap, cells);
+    say_pattern(m, n, nonzeros, cap, cells);
     let given = given_by(m, n, nonzeros, cap, cells);
     let list = given.list;
     let opened = search::open(m, n, nonzeros, &list, cap);
     let fresh = opened.search;
-    put_search(fresh, given);
+    say_search(fresh, given);
     let after_1 = go_on(fresh, given, 1);
     let after_3 = go_on(after_1, given, 2);
     let after_7 = go_on(after_3, given, 4);
     let after_20 = go_on(after_7, given, 13);
     let after_60 = go_on(after_20, given, 40);
     go_on(after_60, given, 1_000_000);
-    put(b"\n");
+    say(b"\n");
 }
 
 // Walks 1 to 6.

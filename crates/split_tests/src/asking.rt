@@ -1,41 +1,14 @@
 // Inputs laid out in a page, and answers printed.
 use answering::splitting::answer;
-use pattern::reading::put;
-
-// Bytes as they are.
-pub(crate) fn say(bytes: &[u8]) {
-    io::write_all(1, bytes);
-}
+use testing::laying::lay;
+use testing::saying::say;
+use testing::saying::say_start;
 
 // The name of an input, on a line of its own.
 pub(crate) fn say_name(name: &[u8]) {
     say(b"# ");
     say(name);
     say(b"\n");
-}
-
-// The first bytes of a page.
-fn say_start(page: &[u8], len: usize) {
-    if len <= page.len() {
-        say(&page[0..len]);
-    }
-}
-
-// The place after another, up to a million.
-fn after(at: usize) -> usize {
-    if at < 1000000 { at + 1 } else { at }
-}
-
-// Bytes laid out in a page from a place on, and the place after them. What falls past the page's end is left out.
-pub(crate) fn lay(page: &mut [u8], at: usize, bytes: &[u8]) -> usize {
-    let mut next = at;
-    let mut i: usize = 0;
-    while i < bytes.len() {
-        put(page, next, bytes[i]);
-        next = after(next);
-        i += 1;
-    }
-    next
 }
 
 // The answer to an input, with room for the longest one.

@@ -1,9 +1,9 @@
 // Percentages, budgets and texts at their limits and one past them.
 use crate::asking::diagonal;
-use crate::asking::lay;
 use crate::asking::pattern;
 use crate::asking::single;
 use crate::asking::start;
+use testing::laying::lay;
 
 // Percentages, and the caps that they give.
 pub(crate) fn percentages() {

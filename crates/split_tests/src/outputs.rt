@@ -1,12 +1,12 @@
 // Outputs of several lengths: the answer's length is given, and what falls past the end is left out.
-use crate::asking::say;
 use crate::asking::say_name;
 use answering::splitting::answer;
+use testing::saying::say;
+use testing::saying::say_number;
 
 // The length of an answer, and every byte of a page after it.
 fn say_page(len: usize, page: &[u8]) {
-    say(b"length ");
-    io::print_decimal(1, len as u64);
+    say_number(b"length ", len as u64);
     say(b"\n");
     say(page);
     say(b"|\n");

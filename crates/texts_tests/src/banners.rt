@@ -1,7 +1,7 @@
 // First lines.
-use crate::reading::lay;
 use crate::reading::start;
 use crate::reading::whole;
+use testing::laying::lay;
 
 // A text by its first line, with a size line after it.
 fn first_line(name: &[u8], line: &[u8]) {

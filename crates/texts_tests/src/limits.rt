@@ -1,7 +1,7 @@
 // Slices of several lengths, and the longest text.
-use crate::reading::lay;
 use crate::reading::read_within;
 use crate::reading::start;
+use testing::laying::lay;
 
 // A text of two nonzeros read into slices of these lengths.
 fn two(name: &[u8], listed: usize, parted: usize) {

@@ -1,34 +1,17 @@
 // Texts laid out in a page and read.
-use crate::saying::say;
-use crate::saying::say_bytes;
+use crate::saying::say_left;
 use crate::saying::say_read;
-use pattern::reading::put;
+use testing::laying::lay;
+use testing::saying::say;
 use texts::read::read;
-
-// The place after another, up to a million.
-fn after(at: usize) -> usize {
-    if at < 1000000 { at + 1 } else { at }
-}
-
-// Bytes laid out in a page from a place on, and the place after them. What falls past the page's end is left out.
-pub(crate) fn lay(page: &mut [u8], at: usize, bytes: &[u8]) -> usize {
-    let mut next = at;
-    let mut i: usize = 0;
-    while i < bytes.len() {
-        put(page, next, bytes[i]);
-        next = after(next);
-        i += 1;
-    }
-    next
-}
 
 // A text read into these slices, and what it leaves in them.
 fn read_into(name: &[u8], text: &[u8], list: &mut [u8], parts: &mut [u8]) {
     let answer = read(text, list, parts);
     say(name);
     say_read(answer);
-    say_bytes(b", list", list);
-    say_bytes(b", parts", parts);
+    say_left(b", list", list);
+    say_left(b", parts", parts);
     say(b"\n");
 }
 

@@ -1,11 +1,12 @@
 // Texts written, printed and read back.
 use crate::reading::start;
-use crate::saying::say;
-use crate::saying::say_number;
 use crate::saying::say_read;
 use crate::saying::say_written;
-use pattern::reading::byte_at;
 use pattern::reading::put;
+use testing::comparing::same_count;
+use testing::saying::say;
+use testing::saying::say_number;
+use testing::saying::say_start;
 use texts::read::read;
 use writing::Figures;
 use writing::WriteAnswer;
@@ -19,19 +20,12 @@ fn len_of(answer: WriteAnswer) -> usize {
     }
 }
 
-// The first bytes of a page as they are.
-fn say_text(page: &[u8], len: usize) {
-    if len <= page.len() {
-        say(&page[0..len]);
-    }
-}
-
 // The text of a split, and the split that is read from it.
 fn back(m: u64, n: u64, nonzeros: u64, list: &[u8], parts: &[u8], figures: Figures) {
     let mut out = [9u8; 256];
     let answer = write(m, n, nonzeros, list, parts, figures, &mut out);
     let len = len_of(answer);
-    say_text(&out, len);
+    say_start(&out, len);
     start(b"read back", &out, len);
 }
 
@@ -87,18 +81,6 @@ fn fill(list: &mut [u8], parts: &mut [u8]) {
     }
 }
 
-// How many first bytes of two slices are the same.
-fn same_bytes(first: &[u8], second: &[u8]) -> usize {
-    let mut i: usize = 0;
-    while i < first.len() {
-        if byte_at(first, i) != byte_at(second, i) {
-            return i;
-        }
-        i += 1;
-    }
-    i
-}
-
 // A text read, and how many bytes of list and parts are the same as these.
 fn compare(text: &[u8], list: &[u8], parts: &[u8]) {
     let mut list_back = [9u8; 4000];
@@ -108,9 +90,9 @@ fn compare(text: &[u8], list: &[u8], parts: &[u8]) {
     say_read(answer);
     say_number(
         b", same bytes of the list ",
-        same_bytes(list, &list_back) as u64,
+        same_count(list, &list_back) as u64,
     );
-    say_number(b", of the parts ", same_bytes(parts, &parts_back) as u64);
+    say_number(b", of the parts ", same_count(parts, &parts_back) as u64);
     say(b"\n");
 }
 

@@ -1,8 +1,8 @@
 // Writings that are refused, and outputs of several lengths.
 use crate::saying::is_kept;
-use crate::saying::say;
-use crate::saying::say_which;
 use crate::saying::say_written;
+use testing::saying::say;
+use testing::saying::say_which;
 use writing::Figures;
 use writing::write::write;
 
@@ -47,8 +47,8 @@ fn write_within(
 ) {
     let mut out = [9u8; 200];
     write_start(name, m, n, nonzeros, list, parts, room, &mut out);
-    let kept = is_kept(&out, 0);
-    let kept_past = is_kept(&out, 110);
+    let kept = is_kept(&out);
+    let kept_past = is_kept(&out[110..200]);
     say_which(kept, b", output kept", b", output written");
     say_which(kept_past, b", kept from 110 on", b", changed from 110 on");
     say(b"\n");

@@ -1,25 +1,25 @@
--- `gulzoreno_tests::say_bytes` meets its contract. The loop's invariant: `i` is at most the number of bytes.
+-- `testing::saying::say_bytes` meets its contract. The loop's invariant: `i` is at most the number of bytes.
 -- Assumes nothing.
 use borrow.Author.Needs.{needs}
 use Prim.Native.Nat.{_≤_, _-_}
 use lib.ListN.{length}
-use Rattle.gulzoreno_tests.proofs.say_bytes.Statement.{statement}
-use Rattle.gulzoreno_tests.proofs.say_bytes.Tie as tie
+use Rattle.testing.proofs.saying.say_bytes.Statement.{statement}
+use Rattle.testing.proofs.saying.say_bytes.Tie as tie
 
 abbrev Inv-loop : tie.InvT-loop
-Inv-loop word bytes i₀ t4 i = i ≤ length bytes
+Inv-loop words bytes i₀ t4 i = i ≤ length bytes
 
 abbrev μ-loop : tie.MeasureT-loop
-μ-loop word bytes i₀ t4 i = length bytes - i
+μ-loop words bytes i₀ t4 i = length bytes - i
 
-write-all-requires : tie.Need-write-all-requires Inv-loop μ-loop
-write-all-requires c κs = search needs
+say-requires : tie.Need-say-requires Inv-loop μ-loop
+say-requires c κs = search needs
 
 loop-holds : tie.Need-loop-holds Inv-loop μ-loop
 loop-holds c = search needs
 
-slice-aggregate-say : tie.Need-slice-aggregate-say Inv-loop μ-loop
-slice-aggregate-say c = search needs
+slice-aggregate-say-number : tie.Need-slice-aggregate-say-number Inv-loop μ-loop
+slice-aggregate-say-number c = search needs
 
 shared-slice-read-long : tie.Need-shared-slice-read-long Inv-loop μ-loop
 shared-slice-read-long c = search needs
@@ -27,8 +27,8 @@ shared-slice-read-long c = search needs
 long-requires : tie.Need-long-requires Inv-loop μ-loop
 long-requires c κs = search needs
 
-say-requires : tie.Need-say-requires Inv-loop μ-loop
-say-requires c κs = search needs
+say-number-requires : tie.Need-say-number-requires Inv-loop μ-loop
+say-number-requires c κs = search needs
 
 add-i : tie.Need-add-i Inv-loop μ-loop
 add-i c = search needs
@@ -48,12 +48,12 @@ say-bytes-spec =
     (tie.spec
     Inv-loop
     μ-loop
-    write-all-requires
+    say-requires
     loop-holds
-    slice-aggregate-say
+    slice-aggregate-say-number
     shared-slice-read-long
     long-requires
-    say-requires
+    say-number-requires
     add-i
     loop-less
     loop-again

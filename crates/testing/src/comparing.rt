@@ -1,0 +1,63 @@
+// Bytes and searches compared.
+use model::Search;
+use model::Trail;
+use pattern::reading::byte_at;
+ghost use mathlib.Core.Bool.{true};
+ghost use mathlib.Core.Path.{_≡_};
+ghost use Prim.Native.Nat.{ℕ, _<_, _≤_};
+ghost use lib.ListN.{length, getD};
+
+// How many first bytes of two slices are the same, up to the end of the first one.
+pub fn same_count(first: &[u8], second: &[u8]) -> usize
+    ensures { λ r. ⌜ (r ≤ length (now (first .entry)))
+        × ((i : ℕ) → i < r → getD (now (first .entry)) i 0 ≡ getD (now (second .entry)) i 0) ⌝ }
+{
+    let mut i: usize = 0;
+    while i < first.len() {
+        if byte_at(first, i) != byte_at(second, i) {
+            return i;
+        }
+        i += 1;
+    }
+    i
+}
+
+// Two slices hold the same bytes.
+fn same_bytes(first: &[u8], second: &[u8]) -> bool
+    ensures { λ r. ⌜ (r ≡ true → now (first .entry) ≡ now (second .entry)) ⌝ }
+{
+    if first.len() != second.len() {
+        return false;
+    }
+    same_count(first, second) == first.len()
+}
+
+// Two markings have the same length and bytes, those past it included.
+fn same_trail(a: Trail, b: Trail) -> bool {
+    let first = a.marks;
+    let second = b.marks;
+    a.len == b.len && same_bytes(&first, &second)
+}
+
+// Two searches have the same numbers.
+fn same_numbers(a: Search, b: Search) -> bool {
+    a.m == b.m
+        && a.n == b.n
+        && a.nonzeros == b.nonzeros
+        && a.cap == b.cap
+        && a.tries == b.tries
+        && a.best_count == b.best_count
+        && a.found == b.found
+        && a.complete == b.complete
+}
+
+// Two searches are the same, field by field and byte by byte.
+pub fn same_search(a: Search, b: Search) -> bool {
+    let first_best = a.best;
+    let second_best = b.best;
+    let first_trail = a.trail;
+    let second_trail = b.trail;
+    same_numbers(a, b)
+        && same_trail(first_best, second_best)
+        && same_trail(first_trail, second_trail)
+}

@@ -1,0 +1,57 @@
+// Words, numbers, bytes, refusals and answers printed.
+use model::RunAnswer;
+use model::Word;
+use pattern::reading::long;
+use pattern::refusals::refusal_number;
+
+// Words as they are.
+pub fn say(words: &[u8]) {
+    io::write_all(1, words);
+}
+
+// Words and a number.
+pub fn say_number(words: &[u8], x: u64) {
+    io::write_all(1, words);
+    io::print_decimal(1, x);
+}
+
+// Words and the bytes of a slice as numbers.
+pub fn say_bytes(words: &[u8], bytes: &[u8]) {
+    say(words);
+    let mut i: usize = 0;
+    while i < bytes.len() {
+        say_number(b" ", long(bytes[i]));
+        i += 1;
+    }
+}
+
+// The first bytes of a page as they are.
+pub fn say_start(page: &[u8], len: usize) {
+    if len <= page.len() {
+        say(&page[0..len]);
+    }
+}
+
+// The first words where a test passes, and the others where it fails.
+pub fn say_which(test: bool, first: &[u8], others: &[u8]) {
+    if test {
+        say(first);
+    } else {
+        say(others);
+    }
+}
+
+// A refusal, by the table's number and its place.
+pub fn say_refused(word: Word, place: u64) {
+    say_number(b" refused ", refusal_number(word));
+    say_number(b" at ", place);
+}
+
+// What a run answers.
+pub fn say_run(answer: RunAnswer) {
+    match answer {
+        RunAnswer::Complete => say(b" complete"),
+        RunAnswer::Stopped => say(b" stopped"),
+        RunAnswer::Refused(word, place) => say_refused(word, place),
+    }
+}
