@@ -1,2 +1,3 @@
-mod Walk
+pub mod Walk
+pub mod Words
 pub mod Steps

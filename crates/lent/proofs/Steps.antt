@@ -8,6 +8,10 @@ use Rattle.model.specs.declared.RunAnswer.{RunAnswer}
 use Rattle.model.specs.declared.Ran.{Ran}
 use Rattle.search.specs.History.{acceptedBudget, Handed, runOf, History, ran}
 
+-- an answer and a search that are those of a run make up what the run returns
+pub both : (run : Ran) {answer : RunAnswer} {after : Search} → answer ≡ run .answer → after ≡ run .search → record { answer = answer; search = after } ≡ run
+both run answers leaves = rw (answers, leaves)
+
 -- an answer and a search that meet the contract of `lent::run`, and of `lent::try_once` with budget 1
 pub run-steps :
     {m n nonzeros : ℕ} {list : List ℕ} {cap : ℕ} {before : Search} {total : ℕ} → History m n nonzeros list cap before total →
@@ -16,10 +20,4 @@ pub run-steps :
     after ≡ runOf before handed budget .search →
     History m n nonzeros list cap after (total + acceptedBudget answer budget)
 run-steps {m} {n} {nonzeros} {list} {cap} {before} {total} h handed budget answer after answers leaves =
-    ran h handed budget (record { answer = answer; search = after }) both
-  where
-    both :
-        _≡_ {A = Ran}
-        (record { answer = answer; search = after })
-        (runOf before handed budget)
-    both = rw (answers, leaves)
+    ran h handed budget (record { answer = answer; search = after }) (both (runOf before handed budget) answers leaves)

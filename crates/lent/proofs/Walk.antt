@@ -17,11 +17,13 @@ use denote.Exit.{yes}
 use denote.Ref.{RefT}
 use denote.Signature.{Slot, plain, mutRefTo}
 use denote.Slice.{sliceVal, ShrSlice}
+use denote.Struct.Laws as LL
 use denote.Triple.Walked.{Stay, gave-ref, stay-dropped, Goes, goes-gave-ref, goes-dropped}
 use Rattle.model.specs.Calls.{runCall, runReply, runReplies}
 use Rattle.model.specs.declared.Search.{Search}
 use Rattle.model.specs.declared.RunAnswer.{RunAnswer}
 use Rattle.model.proofs.Search as T
+use Rattle.model.proofs.Search.Laws as T′
 
 -- the list's type, over a signature's lifetimes, and its machine value
 abbrev pub S : Lfts 2 → RattleType
@@ -29,6 +31,10 @@ S κs = ShrSlice (named 1) (κs .1 .0) u8
 
 abbrev pub slice : RefT (List ℕ) → Val
 slice y = sliceVal (y .ptr) (length (y .now))
+
+-- the search's machine value
+abbrev pub mach : Search → Val
+mach h = LL.val T.the-type T′.the-laws h
 
 -- the slots of a number, and of the search that is lent
 abbrev pub number : Slot 2

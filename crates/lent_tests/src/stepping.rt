@@ -1,0 +1,145 @@
+// The history of a search: after each call the answers and the searches of both ways are compared.
+use crate::lending::lend;
+use model::Ran;
+use model::RunAnswer;
+use model::Search;
+use pattern::refusals::refusal_number;
+use testing::comparing::same_search;
+use testing::saying::say;
+use testing::saying::say_number;
+use testing::saying::say_run;
+use testing::saying::say_which;
+
+// A number for each kind of answer.
+fn number_of(answer: RunAnswer) -> u64 {
+    match answer {
+        RunAnswer::Complete => 0,
+        RunAnswer::Stopped => 100,
+        RunAnswer::Refused(word, _) => refusal_number(word),
+    }
+}
+
+// The place of a refusal.
+fn place_of(answer: RunAnswer) -> u64 {
+    match answer {
+        RunAnswer::Complete => 0,
+        RunAnswer::Stopped => 0,
+        RunAnswer::Refused(_, place) => place,
+    }
+}
+
+// The answer and the tries of a run, and whether another one has the same answer and the same search.
+fn say_both(first: Ran, second: Ran) {
+    let answer = first.answer;
+    let other = second.answer;
+    let search = first.search;
+    let beside = second.search;
+    say_run(answer);
+    say_number(b" tries ", search.tries);
+    let answers = number_of(answer) == number_of(other) && place_of(answer) == place_of(other);
+    say_which(answers, b" same answer", b" another answer");
+    let searches = same_search(search, beside);
+    say_which(searches, b" same search", b" another search");
+}
+
+// A run with a budget and a try after it, lent and by value, on a line of its own; and the search that was lent.
+fn step(
+    words: &[u8],
+    search: Search,
+    m: u64,
+    n: u64,
+    nonzeros: u64,
+    list: &[u8],
+    budget: u64,
+) -> Search {
+    let lent = lend(search, m, n, nonzeros, list, budget);
+    let ran = search::run(search, m, n, nonzeros, list, budget);
+    let between = ran.search;
+    let tried = search::run(between, m, n, nonzeros, list, 1);
+    let first = lent.ran;
+    let second = lent.tried;
+    say(words);
+    say(b": run");
+    say_both(first, ran);
+    say(b", try");
+    say_both(second, tried);
+    say(b"\n");
+    second.search
+}
+
+// The list of the 3 by 2 pattern that is searched.
+fn listed() -> [u8; 8] {
+    [0, 0, 0, 1, 1, 0, 2, 1]
+}
+
+// A run with this budget, and a try, on the pattern's list.
+fn go(words: &[u8], search: Search, budget: u64) -> Search {
+    let list = listed();
+    step(words, search, 3, 2, 4, &list, budget)
+}
+
+// A fresh search, and its first steps.
+fn first_steps() -> Search {
+    let list = listed();
+    let opened = search::open(3, 2, 4, &list, 2);
+    let search = opened.search;
+    let a = go(b"fresh, budget 0", search, 0);
+    let b = go(b"budget 1", a, 1);
+    let c = go(b"budget 5", b, 5);
+    go(b"budget over the limit", c, 1_000_001)
+}
+
+// Sizes that are refused, or are not the search's own.
+fn other_sizes(search: Search) -> Search {
+    let list = listed();
+    let a = step(b"no rows", search, 0, 2, 4, &list, 3);
+    step(b"another size", a, 3, 3, 4, &list, 3)
+}
+
+// Lists that are refused.
+fn other_lists(search: Search) -> Search {
+    let a = step(b"short list", search, 3, 2, 4, &[0u8, 0, 0, 1, 1, 0, 2], 3);
+    let b = step(b"empty list", a, 3, 2, 4, b"", 3);
+    let c = step(b"row off", b, 3, 2, 4, &[0u8, 0, 0, 1, 3, 0, 3, 1], 3);
+    step(b"falling", c, 3, 2, 4, &[0u8, 0, 1, 1, 0, 1, 2, 1], 3)
+}
+
+// The rest of the search, and calls on the complete one.
+fn last_steps(search: Search) -> Search {
+    let a = go(b"budget 3 after refusals", search, 3);
+    let b = go(b"budget 1000000", a, 1_000_000);
+    let c = go(b"complete, budget 2", b, 2);
+    go(b"complete, budget over the limit", c, 1_000_001)
+}
+
+// Searches that are no state, or whose tries are at their limit.
+fn states(search: Search) {
+    let mut s = search;
+    s.tries = 1_000_000_000_000_001;
+    go(b"tries over the limit", s, 3);
+    s.tries = 999_999_999_999_997;
+    go(b"tries near the limit", s, 3);
+    let mut long = search.trail;
+    long.len = 241;
+    let mut s = search;
+    s.trail = long;
+    go(b"trail longer than its bytes", s, 3);
+}
+
+// Marks past a trail's length, which an accepted run clears.
+fn bytes_past(search: Search) {
+    let mut trail = search.trail;
+    trail.marks[100] = 3;
+    let mut s = search;
+    s.trail = trail;
+    go(b"a mark past the length, refused", s, 1_000_001);
+    go(b"a mark past the length, cleared", s, 0);
+}
+
+// Every step in turn.
+pub(crate) fn all() {
+    let some = first_steps();
+    states(some);
+    bytes_past(some);
+    last_steps(other_lists(other_sizes(some)));
+}
