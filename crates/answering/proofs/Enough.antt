@@ -1,7 +1,7 @@
 -- The first bytes of an input are enough: a first line of at most 64 bytes, a text at the limit, and one byte more.
 -- Assumes nothing.
-use mathlib.Core.Bool.{Bool, true, false, not}
-use mathlib.Core.List.{List, [], _∷_}
+use mathlib.Core.Bool.{Bool, false}
+use mathlib.Core.List.{List}
 use mathlib.Core.Path.{_≡_, refl, sym, _∙_, ap}
 use Prim.Native.Nat.{ℕ, zero, suc, _+_, _-_, _*_, _≤_, _<_}
 use native.Mathlib.Omega.{arith}
@@ -10,28 +10,27 @@ use lib.ListN.{length, getD, take, drop, length-drop}
 use lib.Seq.{take-all, length-take-le, getD-take}
 use borrow.Author.Tests.{lt-ltb, ltb-true, ltb-false}
 use Rattle.counting.specs.Tests.{_and_, pick}
-use Rattle.counting.proofs.Joined.{by-test, pick-true, pick-false}
+use Rattle.counting.proofs.Joined.{by-test}
 use Rattle.model.specs.declared.Word.the-variants.{EntryForm, TooBig}
-use Rattle.model.specs.declared.Verdict.{Verdict}
-use Rattle.model.specs.declared.Verdict.the-variants.{Accepted, Refused}
-use Rattle.model.specs.Refusal.{refuse, _then_}
-use Rattle.model.proofs.Theorems.Accepted.{refuse-so}
-use Rattle.scanning.specs.declared.Run.{Run}
-use Rattle.scanning.specs.declared.Run.the-variants.{Digits}
-use Rattle.scanning.specs.Classes.{classOf, goesOn, cased, digitOf}
-use Rattle.scanning.specs.Lines.{past, runsAt, runEnd}
+use Rattle.model.specs.declared.Verdict.the-variants.{Refused}
+use Rattle.model.specs.Refusal.{_then_}
+use Rattle.model.proofs.Theorems.Checks.{refuse-so}
+use Rattle.scanning.specs.declared.Stretch.{Stretch}
+use Rattle.scanning.specs.declared.Stretch.the-variants.{Digits}
+use Rattle.scanning.specs.Classes.{classOf, stretchesOver, cased, digitOf}
+use Rattle.scanning.specs.Lines.{past, stretchesAt, stretchEnd}
 use Rattle.scanning.specs.Words.{spells, sameWord, isNumber, valueOf, numberValue}
 use Rattle.texts.specs.declared.ReadAnswer.{ReadAnswer}
 use Rattle.texts.specs.declared.ReadAnswer.the-variants as read-answer
-use Rattle.texts.specs.Header.{textLimit, headerOf, headVerdict}
-use Rattle.texts.specs.Reading.{answerAfter, textVerdict, readVerdict, readCall, readList}
+use Rattle.texts.specs.Header.{textLimit, headVerdict}
+use Rattle.texts.specs.Reading.{answerRead, textVerdict, readVerdict, readCall, readList}
 use Rattle.writing.specs.Lines.{refusedText}
-use Rattle.answering.specs.declared.Order.{Order}
-use Rattle.answering.specs.Ordering.{#percent, #budget, orderOf}
+use Rattle.answering.specs.declared.Command.{Command}
+use Rattle.answering.specs.FirstLine.{#percent, #budget, commandOf}
 use Rattle.answering.specs.Answer.{listRoom, partsRoom, afterReading, patternText, answerText}
 use Rattle.answering.specs.Printing.{inputRoom}
-use Rattle.scanning.proofs.Scans.{run-after}
-use Rattle.answering.proofs.Orders.{run-within}
+use Rattle.scanning.proofs.Scans.{stretch-after}
+use Rattle.answering.proofs.FirstLine.{stretch-within}
 
 -- two inputs have the same first 64 bytes
 abbrev Alike : List ℕ → List ℕ → Type 0
@@ -45,15 +44,15 @@ past-same p q at (suc k) h =
     ∙ ap (λ (x : ℕ). pick (q at) x at) (past-same p q (at + 1) k (λ i l. h i (omega arith)))
 
 module _ (a b : List ℕ) (same : Alike a b) where
-  run-same : (run : Run) (at stop : ℕ) → at ≤ 64 → stop ≤ 64 → runEnd run a at stop ≡ runEnd run b at stop
-  unfolding runEnd runsAt
+  run-same : (run : Stretch) (at stop : ℕ) → at ≤ 64 → stop ≤ 64 → stretchEnd run a at stop ≡ stretchEnd run b at stop
+  unfolding stretchEnd stretchesAt
   run-same run at stop h g =
       past-same
-      (λ i. goesOn run (classOf (getD a i 0)))
-      (λ i. goesOn run (classOf (getD b i 0)))
+      (λ i. stretchesOver run (classOf (getD a i 0)))
+      (λ i. stretchesOver run (classOf (getD b i 0)))
       at
       (stop - at)
-      (λ i l. ap (λ (x : ℕ). goesOn run (classOf x)) (same i (omega arith)))
+      (λ i l. ap (λ (x : ℕ). stretchesOver run (classOf x)) (same i (omega arith)))
 
   word-same :
       (from stop : ℕ) (word : List ℕ) → from + length word ≤ 64 → sameWord a from stop false word ≡ sameWord b from stop false word
@@ -87,30 +86,30 @@ module _ (a b : List ℕ) (same : Alike a b) where
       ∙ ap (λ (x : ℕ). pick (isNumber b from stop) x 0) (digits-same from (stop - from) (omega arith))
 
   -- the first line ends within 64 bytes, and is the same
-  order-same : orderOf a ≡ orderOf b
-  unfolding orderOf
-  order-same =
-      let stop = runEnd Digits b 8 18 in
-      let end = runEnd Digits b (stop + 8) (stop + 8 + 10) in
-      let short : stop ≤ 18 = run-within Digits b 8 18 (omega arith) in
-      let last : end ≤ stop + 8 + 10 = run-within Digits b (stop + 8) (stop + 8 + 10) (omega arith) in
-      let starts : 8 ≤ stop = run-after Digits b 8 18 in
-      let later : stop + 8 ≤ end = run-after Digits b (stop + 8) (stop + 8 + 10) in
+  command-same : commandOf a ≡ commandOf b
+  unfolding commandOf
+  command-same =
+      let stop = stretchEnd Digits b 8 18 in
+      let end = stretchEnd Digits b (stop + 8) (stop + 8 + 10) in
+      let short : stop ≤ 18 = stretch-within Digits b 8 18 (omega arith) in
+      let last : end ≤ stop + 8 + 10 = stretch-within Digits b (stop + 8) (stop + 8 + 10) (omega arith) in
+      let starts : 8 ≤ stop = stretch-after Digits b 8 18 in
+      let later : stop + 8 ≤ end = stretch-after Digits b (stop + 8) (stop + 8 + 10) in
       rw
       (run-same Digits 8 18 (omega arith) (omega arith), run-same Digits (stop + 8) (stop + 8 + 10) (omega arith) (omega arith), word-same 0 8 #percent (omega arith), word-same stop (stop + 8) #budget (omega arith), number-same 8 stop (omega arith) (omega arith), number-same (stop + 8) end (omega arith) (omega arith), value-same 8 stop starts (omega arith), value-same (stop + 8) end later (omega arith), same end (omega arith))
 
 -- where the text starts
-order-next : (input : List ℕ) → orderOf input .next ≤ 64
-unfolding orderOf
-order-next input =
-    let stop = runEnd Digits input 8 18 in
-    let short : stop ≤ 18 = run-within Digits input 8 18 (omega arith) in
-    omega (arith, run-within Digits input (stop + 8) (stop + 8 + 10) (omega arith))
+command-next : (input : List ℕ) → commandOf input .next ≤ 64
+unfolding commandOf
+command-next input =
+    let stop = stretchEnd Digits input 8 18 in
+    let short : stop ≤ 18 = stretch-within Digits input 8 18 (omega arith) in
+    omega (arith, stretch-within Digits input (stop + 8) (stop + 8 + 10) (omega arith))
 
 -- a text over the limit is refused, whatever follows
 over-refused : (text : List ℕ) → textLimit < length text → readCall text listRoom partsRoom ≡ read-answer.Refused TooBig 0
-unfolding readCall readVerdict textVerdict headVerdict answerAfter _then_
-over-refused text h = rw (refuse-so (ltb textLimit (length text)) TooBig 0 (lt-ltb textLimit (length text) h))
+unfolding readCall readVerdict textVerdict headVerdict answerRead _then_
+over-refused text h = rw (refuse-so {test = ltb textLimit (length text)} TooBig 0 (lt-ltb textLimit (length text) h))
 
 over-text : (text : List ℕ) (percent budget : ℕ) (out : List ℕ) → textLimit < length text → patternText text percent budget out ≡ refusedText TooBig 0
 unfolding patternText afterReading
@@ -125,14 +124,14 @@ module _ (input out : List ℕ) where
   unfolding answerText
   long-same h =
       let first = take inputRoom input in
-      let o = orderOf input in
-      let near = order-next input in
+      let o = commandOf input in
+      let near = command-next input in
       let whole = length-take-le inputRoom input (omega arith) in
       let short : textLimit < length (drop (o .next) first) = omega (arith, length-drop (o .next) first, whole, near) in
       let long : textLimit < length (drop (o .next) input) = omega (arith, length-drop (o .next) input, near) in
       ap
-      (λ (x : Order). pick (x .fine) (patternText (drop (x .next) first) (x .percent) (x .budget) out) (refusedText EntryForm 0))
-      (order-same first input first-bytes)
+      (λ (x : Command). pick (x .fine) (patternText (drop (x .next) first) (x .percent) (x .budget) out) (refusedText EntryForm 0))
+      (command-same first input first-bytes)
       ∙ ap
       (λ (t : List ℕ). pick (o .fine) t (refusedText EntryForm 0))
       (over-text (drop (o .next) first) (o .percent) (o .budget) out short

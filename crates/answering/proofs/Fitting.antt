@@ -25,12 +25,12 @@ use Rattle.texts.specs.declared.ReadAnswer.the-variants as read-answer
 use Rattle.texts.specs.Reading.{readCall, readList}
 use Rattle.writing.specs.declared.WriteAnswer.the-variants as write-answer
 use Rattle.writing.specs.Written.{numberText, figureText, #tries, #floor, textOf}
-use Rattle.writing.specs.Writing.{writeVerdict, lengthAnswer, answerAfter, writeCall}
+use Rattle.writing.specs.Writing.{writeVerdict, lengthAnswer, answerWritten, writeCall}
 use Rattle.writing.specs.Lines.{#refused, #at, #none, refusedText, noneText}
 use Rattle.writing.proofs.Puttings.{number-short}
 use Rattle.readback.proofs.Accepted.{fine-split}
 use Rattle.readback.proofs.Short.{writtenMost, text-short}
-use Rattle.answering.specs.Ordering.{orderOf}
+use Rattle.answering.specs.FirstLine.{commandOf}
 use Rattle.answering.specs.Answer.{listRoom, partsRoom, figuresOf, afterWriting, afterShowing, searchText, afterRun, ranText, afterOpening, openedText, afterCap, afterReading, patternText, answerText}
 
 figure-short : (label : List ℕ) (n : ℕ) → length (figureText label n) ≤ length label + 21
@@ -52,8 +52,8 @@ none-short cap tries floor =
 module _ (out : List ℕ) where
   after-short :
       (v : Verdict) (text : List ℕ) → (v ≡ Accepted → length text ≤ writtenMost) →
-      length (afterWriting (answerAfter v text out) text) ≤ writtenMost
-  unfolding answerAfter lengthAnswer afterWriting
+      length (afterWriting (answerWritten v text out) text) ≤ writtenMost
+  unfolding answerWritten lengthAnswer afterWriting
   after-short Accepted text h =
       by-test
       (ltb (length out) (length text))
@@ -103,7 +103,7 @@ module _ (out : List ℕ) where
 pub answer-fits : (input out : List ℕ) → length (answerText input out) ≤ writtenMost
 unfolding answerText patternText
 answer-fits input out =
-    let o = orderOf input in
+    let o = commandOf input in
     let text = drop (o .next) input in
     let answer = afterReading (readCall text listRoom partsRoom) (readList text listRoom partsRoom) (o .percent) (o .budget) out in
     by-test

@@ -1,4 +1,4 @@
-pub mod Orders
+pub mod FirstLine
 pub mod Steps
 pub mod Enough
 pub mod Roomy

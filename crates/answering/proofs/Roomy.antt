@@ -1,11 +1,9 @@
 -- An output of 32,768 bytes has room for every answer: past that its length does not count.
 -- Assumes nothing.
-use mathlib.Core.Bool.{Bool, true, false}
 use mathlib.Core.List.{List}
 use mathlib.Core.Path.{_≡_, refl, sym, _∙_, ap}
 use Prim.Native.Nat.{ℕ, _≤_}
 use native.Mathlib.Omega.{arith}
-use lib.Dec.{ltb}
 use lib.ListN.{length, drop}
 use borrow.Author.Tests.{le-ltb}
 use Rattle.counting.specs.Tests.{pick}
@@ -16,10 +14,8 @@ use Rattle.model.specs.declared.Verdict.the-variants.{Accepted, Refused}
 use Rattle.model.specs.declared.CapAnswer.{CapAnswer}
 use Rattle.model.specs.declared.CapAnswer.the-variants as cap-answer
 use Rattle.model.specs.declared.Search.{Search}
-use Rattle.model.specs.declared.Opened.{Opened}
 use Rattle.model.specs.declared.RunAnswer.{RunAnswer}
 use Rattle.model.specs.declared.RunAnswer.the-variants as run-answer
-use Rattle.model.specs.declared.Ran.{Ran}
 use Rattle.model.specs.declared.ShowAnswer.{ShowAnswer}
 use Rattle.model.specs.declared.ShowAnswer.the-variants as show-answer
 use Rattle.model.specs.Calls.{capCall, openCall, runCall, showCall, showParts}
@@ -30,11 +26,11 @@ use Rattle.writing.specs.declared.Figures.{Figures}
 use Rattle.writing.specs.declared.WriteAnswer.{WriteAnswer}
 use Rattle.writing.specs.declared.WriteAnswer.the-variants as write-answer
 use Rattle.writing.specs.Written.{textOf}
-use Rattle.writing.specs.Writing.{writeVerdict, lengthAnswer, answerAfter, writeCall}
+use Rattle.writing.specs.Writing.{writeVerdict, lengthAnswer, answerWritten, writeCall}
 use Rattle.writing.specs.Lines.{refusedText}
 use Rattle.readback.proofs.Accepted.{fine-split}
 use Rattle.readback.proofs.Short.{text-short}
-use Rattle.answering.specs.Ordering.{orderOf}
+use Rattle.answering.specs.FirstLine.{commandOf}
 use Rattle.answering.specs.Answer.{listRoom, partsRoom, figuresOf, afterWriting, afterShowing, searchText, afterRun, ranText, afterOpening, openedText, afterCap, afterReading, patternText, answerText}
 use Rattle.answering.specs.Printing.{outputRoom}
 
@@ -45,8 +41,8 @@ module _ (out other : List ℕ) (room : outputRoom ≤ length out) (too : output
       pick-false (write-answer.Refused ShortBuffer 0) (write-answer.Written (length text)) (le-ltb (length out) (length text) (omega arith))
       ∙ sym (pick-false (write-answer.Refused ShortBuffer 0) (write-answer.Written (length text)) (le-ltb (length other) (length text) (omega arith)))
 
-  after-same : (v : Verdict) (text : List ℕ) → (v ≡ Accepted → length text ≤ outputRoom) → answerAfter v text out ≡ answerAfter v text other
-  unfolding answerAfter
+  after-same : (v : Verdict) (text : List ℕ) → (v ≡ Accepted → length text ≤ outputRoom) → answerWritten v text out ≡ answerWritten v text other
+  unfolding answerWritten
   after-same Accepted text h = length-same text (h refl)
   after-same (Refused word place) text h = refl
 
@@ -101,7 +97,7 @@ module _ (out other : List ℕ) (room : outputRoom ≤ length out) (too : output
   pub any-room : (input : List ℕ) → answerText input out ≡ answerText input other
   unfolding answerText patternText
   any-room input =
-      let o = orderOf input in
+      let o = commandOf input in
       let text = drop (o .next) input in
       ap
       (λ (t : List ℕ). pick (o .fine) t (refusedText EntryForm 0))

@@ -13,7 +13,6 @@ use borrow.Author.Tests.{eqb-true, ltb-true, ltb-false}
 use borrow.Rule.Slice.PartAt.{part-to-end}
 use types.Run.{OneOf}
 use denote.Enum.Declared.{tagOf, declared}
-use Rattle.counting.specs.Tests.{pick}
 use Rattle.counting.proofs.Joined.{no-way, by-test, and-right, pick-true, pick-false}
 use Rattle.model.specs.declared.Word.{Word}
 use Rattle.model.specs.declared.Word.the-variants.{EntryForm}
@@ -34,8 +33,8 @@ use Rattle.model.proofs.RunAnswer.{enum as run-enum}
 use Rattle.texts.specs.declared.ReadAnswer.{ReadAnswer}
 use Rattle.texts.specs.declared.ReadAnswer.the-variants as read-answer
 use Rattle.texts.specs.Reading.{readCall, readList}
-use Rattle.scanning.specs.declared.Run.the-variants.{Digits}
-use Rattle.scanning.specs.Lines.{runEnd}
+use Rattle.scanning.specs.declared.Stretch.the-variants.{Digits}
+use Rattle.scanning.specs.Lines.{stretchEnd}
 use Rattle.writing.specs.declared.Figures.{Figures}
 use Rattle.writing.specs.declared.WriteAnswer.{WriteAnswer}
 use Rattle.writing.specs.declared.WriteAnswer.the-variants as write-answer
@@ -44,8 +43,8 @@ use Rattle.writing.specs.Writing.{writeCall, writeOut}
 use Rattle.writing.specs.Lines.{refusedText, noneText}
 use Rattle.writing.proofs.Puttings.{puts-none, puts-as}
 use Rattle.writing.proofs.Answers.{write-puts, write-keeps}
-use Rattle.answering.specs.declared.Order.{Order}
-use Rattle.answering.specs.Ordering.{orderOf}
+use Rattle.answering.specs.declared.Command.{Command}
+use Rattle.answering.specs.FirstLine.{commandOf}
 use Rattle.answering.specs.Answer.{listRoom, partsRoom, figuresOf, lineText, afterWriting, afterShowing, searchText, afterRun, ranText, afterOpening, openedText, afterCap, afterReading, patternText, answerText}
 
 puts-from : {page from text new : List ℕ} {at next : ℕ} → page ≡ from → Puts page at text new next → Puts from at text new next
@@ -245,31 +244,31 @@ module _ (text list : List ℕ) (percent budget : ℕ) (out new : List ℕ) (r :
       (ap (λ (x : ReadAnswer). afterReading x (readList text listRoom partsRoom) percent budget out) (sym h ∙ e))
       p
 
--- what the first line orders
-module _ (input out new : List ℕ) (r : ℕ) (o : Order) (e : o ≡ orderOf input) where
-  pub order-other : o .fine ≡ false → Puts out 0 (refusedText EntryForm 0) new r → Puts out 0 (answerText input out) new r
+-- the command that the first line gives
+module _ (input out new : List ℕ) (r : ℕ) (o : Command) (e : o ≡ commandOf input) where
+  pub command-other : o .fine ≡ false → Puts out 0 (refusedText EntryForm 0) new r → Puts out 0 (answerText input out) new r
   unfolding answerText
-  order-other h p =
+  command-other h p =
       puts-as
-      (sym (pick-false (patternText (drop (orderOf input .next) input) (orderOf input .percent) (orderOf input .budget) out) (refusedText EntryForm 0) (ap (λ (x : Order). x .fine) (sym e) ∙ h)))
+      (sym (pick-false (patternText (drop (commandOf input .next) input) (commandOf input .percent) (commandOf input .budget) out) (refusedText EntryForm 0) (ap (λ (x : Command). x .fine) (sym e) ∙ h)))
       p
 
-  pub order-text :
+  pub command-text :
       o .fine ≡ true → Puts out 0 (patternText (take (length input - o .next) (drop (o .next) input)) (o .percent) (o .budget) out) new r →
       Puts out 0 (answerText input out) new r
   unfolding answerText
-  order-text h p =
+  command-text h p =
       puts-as
       (ap (λ (text : List ℕ). patternText text (o .percent) (o .budget) out) (part-to-end input (o .next))
-      ∙ ap (λ (x : Order). patternText (drop (x .next) input) (x .percent) (x .budget) out) e
-      ∙ sym (pick-true (patternText (drop (orderOf input .next) input) (orderOf input .percent) (orderOf input .budget) out) (refusedText EntryForm 0) (ap (λ (x : Order). x .fine) (sym e) ∙ h)))
+      ∙ ap (λ (x : Command). patternText (drop (x .next) input) (x .percent) (x .budget) out) e
+      ∙ sym (pick-true (patternText (drop (commandOf input .next) input) (commandOf input .percent) (commandOf input .budget) out) (refusedText EntryForm 0) (ap (λ (x : Command). x .fine) (sym e) ∙ h)))
       p
 
-  -- a fine order has its LF in the input
-  pub order-room : o .fine ≡ true → o .next ≤ length input
-  unfolding orderOf
-  order-room h =
-      let end = runEnd Digits input (runEnd Digits input 8 18 + 8) (runEnd Digits input 8 18 + 8 + 10) in
-      let last = eqb-true (getD input end 0) 10 (and-right _ (eqb (getD input end 0) 10) (ap (λ (x : Order). x .fine) (sym e) ∙ h)) in
+  -- a fine command has its LF in the input
+  pub command-room : o .fine ≡ true → o .next ≤ length input
+  unfolding commandOf
+  command-room h =
+      let end = stretchEnd Digits input (stretchEnd Digits input 8 18 + 8) (stretchEnd Digits input 8 18 + 8 + 10) in
+      let last = eqb-true (getD input end 0) 10 (and-right _ (eqb (getD input end 0) 10) (ap (λ (x : Command). x .fine) (sym e) ∙ h)) in
       let inside = byte-inside input end (getD input end 0) refl last in
-      omega (arith, ap (λ (x : Order). x .next) e, inside)
+      omega (arith, ap (λ (x : Command). x .next) e, inside)

@@ -1,6 +1,5 @@
 -- Document 01, 'Texts': what the program prints, step by step.
 -- Assumes nothing.
-use mathlib.Core.Bool.{Bool, true, false}
 use mathlib.Core.List.{List, []}
 use Prim.Native.Nat.{ℕ, _*_}
 use lib.ListN.{drop, replicate}
@@ -29,8 +28,7 @@ use Rattle.writing.specs.declared.WriteAnswer.the-variants as write-answer
 use Rattle.writing.specs.Written.{textOf}
 use Rattle.writing.specs.Writing.{writeCall}
 use Rattle.writing.specs.Lines.{refusedText, noneText}
-use Rattle.answering.specs.declared.Order.{Order}
-use Rattle.answering.specs.Ordering.{orderOf}
+use Rattle.answering.specs.FirstLine.{commandOf}
 
 -- slices with room for the longest list and its parts
 abbrev pub listRoom : List ℕ
@@ -124,8 +122,8 @@ patternText text percent budget out =
 -- the whole input: another form of the first line is refusal 3 at 0, before all else; then the text
 unfoldable pub answerText : List ℕ → List ℕ → List ℕ
 answerText input out =
-    let order = orderOf input in
+    let command = commandOf input in
     pick
-    (order .fine)
-    (patternText (drop (order .next) input) (order .percent) (order .budget) out)
+    (command .fine)
+    (patternText (drop (command .next) input) (command .percent) (command .budget) out)
     (refusedText EntryForm 0)

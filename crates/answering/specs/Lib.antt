@@ -1,3 +1,3 @@
-pub mod Ordering
+pub mod FirstLine
 pub mod Answer
 pub mod Printing

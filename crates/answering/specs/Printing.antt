@@ -10,12 +10,12 @@ use Rattle.answering.specs.declared.Printed.{Printed}
 use Rattle.answering.specs.Answer.{answerText}
 
 -- the first line: at most 64 bytes
-abbrev pub orderLimit : ℕ
-orderLimit = 64
+abbrev pub firstLineLimit : ℕ
+firstLineLimit = 64
 
 -- bytes that are read: a first line, a text at its limit, and one more, which tells a longer text
 abbrev pub inputRoom : ℕ
-inputRoom = orderLimit + textLimit + 1
+inputRoom = firstLineLimit + textLimit + 1
 
 -- bytes that have room for every answer
 abbrev pub outputRoom : ℕ

@@ -1,10 +1,10 @@
 // The program's answer: from the bytes of its input to the bytes that it prints.
-pub mod ordering;
+pub mod first_line;
 pub mod printing;
 pub mod splitting;
 
 // The first line: as it must be or not, E and B, and where the text starts.
-pub struct Order {
+pub struct Command {
     pub fine: bool,
     pub percent: u32,
     pub budget: u32,

@@ -1,5 +1,5 @@
 // A pattern's text split: read, capped, opened, run, shown and written.
-use crate::ordering::order_of;
+use crate::first_line::command_of;
 use model::CapAnswer;
 use model::RunAnswer;
 use model::Search;
@@ -22,7 +22,7 @@ ghost use Rattle.writing.specs.Written.{Puts};
 ghost use Rattle.answering.specs.Answer.{figuresOf, lineText, afterShowing, searchText, ranText, openedText, afterCap, patternText, answerText};
 
 // The figures of a search with a split to show.
-pub fn figures_of(search: Search, volume: u64, floor: u64) -> Figures
+fn figures_of(search: Search, volume: u64, floor: u64) -> Figures
     ensures { λ r. ⌜ r ≡ figuresOf search volume floor ⌝ }
 {
     Figures {
@@ -35,7 +35,7 @@ pub fn figures_of(search: Search, volume: u64, floor: u64) -> Figures
 }
 
 // Writes a split as a text.
-pub fn put_split(
+fn put_split(
     m: u64,
     n: u64,
     nonzeros: u64,
@@ -57,7 +57,7 @@ pub fn put_split(
 }
 
 // Writes the line of an answer without a split.
-pub fn put_line(shown: ShowAnswer, cap: u64, tries: u64, out: &mut [u8]) -> usize
+fn put_line(shown: ShowAnswer, cap: u64, tries: u64, out: &mut [u8]) -> usize
     ensures { λ r. ⌜ Puts (now (out .entry)) 0 (lineText shown cap tries) (now (out .exit)) r ⌝ }
 {
     match shown {
@@ -71,14 +71,7 @@ pub fn put_line(shown: ShowAnswer, cap: u64, tries: u64, out: &mut [u8]) -> usiz
 }
 
 // Shows a search and prints what it shows: the split, or "none yet".
-pub fn put_search(
-    search: Search,
-    m: u64,
-    n: u64,
-    nonzeros: u64,
-    list: &[u8],
-    out: &mut [u8],
-) -> usize
+fn put_search(search: Search, m: u64, n: u64, nonzeros: u64, list: &[u8], out: &mut [u8]) -> usize
     ensures { λ r. ⌜ Puts (now (out .entry)) 0 (searchText search m n nonzeros (now (list .entry)) (now (out .entry))) (now (out .exit)) r ⌝ }
 {
     let mut parts = [0u8; 2000];
@@ -90,7 +83,7 @@ pub fn put_search(
 }
 
 // Runs a search and prints what it shows.
-pub fn put_run(
+fn put_run(
     search: Search,
     m: u64,
     n: u64,
@@ -112,7 +105,7 @@ pub fn put_run(
 }
 
 // Opens a search, runs it and prints what it shows.
-pub fn put_opening(
+fn put_opening(
     m: u64,
     n: u64,
     nonzeros: u64,
@@ -133,7 +126,7 @@ pub fn put_opening(
 }
 
 // Splits a pattern under a percentage and prints the answer.
-pub fn put_pattern(
+fn put_pattern(
     m: u64,
     n: u64,
     nonzeros: u64,
@@ -152,7 +145,7 @@ pub fn put_pattern(
 }
 
 // Reads a text, splits its pattern and prints the answer.
-pub fn put_text(text: &[u8], percent: u64, budget: u64, out: &mut [u8]) -> usize
+fn put_text(text: &[u8], percent: u64, budget: u64, out: &mut [u8]) -> usize
     ensures { λ r. ⌜ Puts (now (out .entry)) 0 (patternText (now (text .entry)) percent budget (now (out .entry))) (now (out .exit)) r ⌝ }
 {
     let mut list = [0u8; 4000];
@@ -173,15 +166,15 @@ pub fn put_text(text: &[u8], percent: u64, budget: u64, out: &mut [u8]) -> usize
 pub fn answer(input: &[u8], out: &mut [u8]) -> usize
     ensures { λ r. ⌜ Puts (now (out .entry)) 0 (answerText (now (input .entry)) (now (out .entry))) (now (out .exit)) r ⌝ }
 {
-    let order = order_of(input);
-    let next = order.next;
+    let command = command_of(input);
+    let next = command.next;
     let len = input.len();
-    if !order.fine {
+    if !command.fine {
         return put_refused(out, Word::EntryForm, 0);
     }
     if len < next {
         return put_refused(out, Word::EntryForm, 0);
     }
     let text = &input[next..len];
-    put_text(text, order.percent as u64, order.budget as u64, out)
+    put_text(text, command.percent as u64, command.budget as u64, out)
 }

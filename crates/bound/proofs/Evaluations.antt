@@ -1,39 +1,41 @@
 -- Laws of the evaluation: its parts, a marking that is not valid, and what an accepted list gives.
 -- Assumes nothing.
-use mathlib.Core.Bool.{Bool, true, false}
-use mathlib.Core.List.{List, [], _∷_}
-use mathlib.Core.Path.{_≡_, refl, sym, _∙_, ap}
+use mathlib.Core.Bool.{true, false}
+use mathlib.Core.List.{List}
+use mathlib.Core.Path.{_≡_, sym, _∙_, ap}
 use mathlib.Core.Logic.{⊎-elim}
 use Prim.Native.Nat.{ℕ, zero, suc, _+_, _-_, _≤_, _<_, max}
 use native.Mathlib.Nat.{max-eq-left, max-eq-right}
 use native.Mathlib.Omega.{arith}
 use lib.Dec.{eqb, ltb}
-use lib.ListN.{length, getD}
+use lib.ListN.{length, getD, getD-replicate}
 use borrow.Author.Tests.{ltb-true, eqb-true}
 use Rattle.counting.specs.Tests.{_and_, _or_}
-use Rattle.counting.proofs.Joined.{no-way, clash, or-cases, and-left}
-use Rattle.model.specs.declared.Part.the-variants.{Zero, One}
+use Rattle.counting.proofs.Joined.{clash, or-cases, and-left}
+use Rattle.counting.proofs.Lists.{getD-any}
 use Rattle.model.specs.declared.Verdict.the-variants.{Accepted}
-use Rattle.model.specs.Pattern.{Pattern, Inside, patternOf, lines, rowIn, columnIn}
-use Rattle.model.specs.Marking.{Marking, unmarked, place, marking, taken, valid}
-use Rattle.model.specs.Bound.{L1, L2, L3, L4, bound}
+use Rattle.model.specs.Pattern.{Pattern, patternOf, lines, rowIn, columnIn}
+use Rattle.model.specs.Marking.{Marking, unmarked, place, marking, valid}
+use Rattle.model.specs.Bound.{bound}
 use Rattle.model.specs.State.{arrayOf}
 use Rattle.model.specs.Calls.{rises, listVerdict}
-use Rattle.model.proofs.Theorems.Accepted.{ListFine, list-accepted, accepted-inside}
+use Rattle.model.proofs.Theorems.Accepted.{list-accepted, accepted-inside}
+use Rattle.model.proofs.Theorems.OfList.{lines-of}
+use Rattle.pattern.specs.Splits.{noLines}
 use Rattle.matching.specs.Starts.{rowStart}
 use Rattle.marking.specs.Marks.{markBy, markFor}
-use Rattle.marking.proofs.Ordered.{lines-of, mark-first, mark-rest}
+use Rattle.marking.proofs.Ordered.{mark-first}
 use Rattle.marking.proofs.Marked.{mark-by-is}
 use Rattle.weighing.specs.declared.taking.Taken.{Taken}
 use Rattle.weighing.specs.declared.leaning.Kinds.{Kinds}
-use Rattle.weighing.specs.Cells.{markingIn}
+use Rattle.weighing.specs.Cells.{markingIn, Cleared}
 use Rattle.weighing.specs.Taking.{TakesOpen, validBy}
 use Rattle.weighing.specs.Leaning.{conditionIn, LeansAll}
 use Rattle.weighing.proofs.Taken.{valid-by}
 use Rattle.weighing.proofs.Leans.{cut-is-L1, torn-is-L2, lean-leans}
 use Rattle.bound.specs.declared.Evaluation.{Evaluation}
 use Rattle.bound.specs.declared.lower.Lower.{Lower}
-use Rattle.bound.specs.Evaluated.{Listed, Placed, TakenOn, LeansAt, Lowered, Parts, Evaluates}
+use Rattle.bound.specs.Evaluated.{Listed, Placed, TakenOn, LeansAt, Lowered, Parts, NoBound, Evaluates}
 
 -- the bound of a valid marking
 pub bound-sum :
@@ -49,12 +51,12 @@ sum-second cut torn x y r h e = omega (arith, max-eq-right h)
 pub sum-first : (cut torn x y r : ℕ) → y ≤ x → r ≡ cut + torn + x → r ≡ cut + torn + max x y
 sum-first cut torn x y r h e = omega (arith, max-eq-left h)
 
--- a marking that is not valid: nothing is said of its bound
+-- a marking that is not valid has no bound
 pub not-valid :
     (P : Pattern) (cap : ℕ) (μ : Marking) (t : Taken) (zero₀ one₀ zero₁ one₁ : List ℕ) (r : Evaluation) →
     TakesOpen P μ t zero₀ one₀ zero₁ one₁ → validBy t cap ≡ false →
-    r .valid ≡ false → r .zero ≡ t .zero → r .one ≡ t .one → Evaluates P cap μ r
-not-valid P cap μ t zero₀ one₀ zero₁ one₁ r k v e z o =
+    r .valid ≡ false → r .zero ≡ t .zero → r .one ≡ t .one → NoBound r → Evaluates P cap μ r
+not-valid P cap μ t zero₀ one₀ zero₁ one₁ r k v e z o none =
     record {
       valid-is = e ∙ sym v ∙ valid-by cap k;
       zero-is = z ∙ k .zero-is;
@@ -64,6 +66,7 @@ not-valid P cap μ t zero₀ one₀ zero₁ one₁ r k v e z o =
       struck-is = λ h. clash h e;
       matched-is = λ h. clash h e;
       bound-is = λ h. clash h e;
+      none = λ h. none;
     }
 
 module _ (m n nonzeros : ℕ) (list marks : List ℕ) {t : Taken} {by-zero by-one : List ℕ} (few : m + n < 512) (k : TakenOn (patternOf m n nonzeros list) (markingIn marks) t by-zero by-one) {s : Kinds} {lean₀ lean₁ : List ℕ} (h : LeansAll (conditionIn marks by-zero by-one) (m + n) s lean₀ lean₁) where
@@ -97,49 +100,26 @@ module _ (m n nonzeros : ℕ) (list marks : List ℕ) {t : Taken} {by-zero by-on
         matched-is = low .matched-is;
       }
 
--- within a list it does not matter what stands past its end
-same-default : (xs : List ℕ) (l a b : ℕ) → l < length xs → getD xs l a ≡ getD xs l b
-same-default [] l a b h = no-way (omega arith)
-same-default (x ∷ xs) zero a b h = refl
-same-default (x ∷ xs) (suc l) a b h = same-default xs l a b (omega arith)
-
--- where a list has a number above 0, it goes on that far
-reaches : (xs : List ℕ) (l x : ℕ) → getD xs l 0 ≡ suc x → l < length xs
-reaches [] l x h = no-way (omega (arith, h))
-reaches (y ∷ ys) zero x h = omega arith
-reaches (y ∷ ys) (suc l) x h = omega (arith, reaches ys l x h)
-
--- the mark of each line, by its place
-pub marked-line :
-    (total : ℕ) (places marks entries earlier : List ℕ) (len : ℕ) → total < 512 →
-    ((l : ℕ) → l < 512 → getD earlier l 0 ≡ unmarked) →
-    ((l : ℕ) → l < 512 → getD entries l 0 ≡ markFor total places marks len earlier l) →
-    (l : ℕ) → l < total → markingIn entries l ≡ markBy marks len (getD places l 0)
-unfolding markingIn
-marked-line total places marks entries earlier len few none e l b =
-    let last : 511 < length entries =
-    reaches
-    entries
-    511
-    2
-    (e 511 (omega arith) ∙ mark-rest total places marks len earlier 511 (omega arith) ∙ none 511 (omega arith)) in
-    same-default entries l unmarked 0 (omega arith)
-    ∙ e l (omega arith)
-    ∙ mark-first total places marks len earlier l b
+-- an array of no lines is one of zeros
+pub none-cleared : (xs : List ℕ) → xs ≡ noLines → Cleared xs
+unfolding noLines
+none-cleared xs e l b = ap (λ (ys : List ℕ). getD ys l 0) e ∙ getD-replicate 512 l 0 0 b
 
 -- the marks by line are those of the marking
 pub by-line :
-    (m n nonzeros : ℕ) (list places marks entries : List ℕ) (len : ℕ) →
-    ((l : ℕ) → l < m + n → markingIn entries l ≡ markBy marks len (getD places l 0)) →
+    (m n nonzeros : ℕ) (list places marks entries : List ℕ) (len total : ℕ) → total ≡ m + n → total < 512 →
+    (length entries ≡ 512) × ((l : ℕ) → l < 512 → getD entries l 0 ≡ markFor total places marks len l) →
     Placed (patternOf m n nonzeros list) places →
     (τ : List ℕ) → length τ ≤ 240 → marks ≡ arrayOf τ → len ≡ length τ →
     (l : ℕ) → l < lines (patternOf m n nonzeros list) →
     markingIn entries l ≡ marking (patternOf m n nonzeros list) τ l
-unfolding marking
-by-line m n nonzeros list places marks entries len e k τ short em el l b =
+unfolding marking markingIn
+by-line m n nonzeros list places marks entries len total et few e k τ short em el l b =
     let P = patternOf m n nonzeros list in
-    let c : l < m + n = omega (arith, lines-of m n nonzeros list) in
-    e l c
+    let c : l < total = omega (arith, et, lines-of m n nonzeros list) in
+    getD-any entries l unmarked 0 (omega (arith, e .0))
+    ∙ e .1 l (omega arith)
+    ∙ mark-first total places marks len l c
     ∙ ap (markBy marks len) (k .placed l b)
     ∙ ap (λ (xs : List ℕ). markBy xs len (place P l)) em
     ∙ ap (λ (d : ℕ). markBy (arrayOf τ) d (place P l)) el

@@ -1,25 +1,23 @@
 -- L3 and L4 from the arrays of an evaluation.
 -- Assumes nothing.
-use mathlib.Core.Bool.{Bool, true, false}
 use mathlib.Core.List.{List}
 use mathlib.Core.Path.{_≡_, refl, sym, _∙_, ap}
 use Prim.Native.Nat.{ℕ, zero, suc, _+_, _-_, _≤_, _<_}
 use native.Mathlib.Omega.{arith}
 use lib.Dec.{eqb}
-use lib.ListN.{getD}
 use borrow.Author.Tests.{eqb-true}
 use Rattle.counting.specs.Tests.{pick}
 use Rattle.counting.proofs.Joined.{by-test, pick-true, pick-false}
 use Rattle.model.specs.declared.Part.{Part}
 use Rattle.model.specs.declared.Part.the-variants.{Zero, One}
-use Rattle.model.specs.Pattern.{Pattern, Inside, patternOf, lines}
+use Rattle.model.specs.Pattern.{patternOf}
 use Rattle.model.specs.Split.{partNumber}
 use Rattle.model.specs.Marking.{Marking, taken}
-use Rattle.model.specs.Bound.{atStake, struck, L3, L4}
+use Rattle.model.specs.Bound.{atStake, struck, L3}
+use Rattle.model.proofs.Theorems.OfList.{lines-of, size-of}
 use Rattle.matching.specs.Augmenting.{Ground, ground, startFrom, startsOf, searchSize}
 use Rattle.matching.proofs.Visits.Size.{start-small}
 use Rattle.matching.proofs.Paths.Greatest.{Arrays, matching-is-L4}
-use Rattle.marking.proofs.Ordered.{lines-of}
 use Rattle.weighing.specs.declared.weights.Stakes.{Stakes}
 use Rattle.weighing.specs.Weights.{WeighsAll, stakeIn}
 use Rattle.weighing.specs.Striking.{struckIn}
@@ -43,10 +41,6 @@ starts-most G (suc i) =
 pub search-most : (G : Ground) → searchSize G ≤ G .m
 unfolding searchSize
 search-most G = starts-most G (G .m)
-
-size-of : (m n nonzeros : ℕ) (list : List ℕ) → patternOf m n nonzeros list .size ≡ nonzeros
-unfolding patternOf
-size-of m n nonzeros list = refl
 
 -- its rows rise
 rows-rise :

@@ -26,4 +26,5 @@ evaluates-same P μ ν i same cap r e =
       struck-is = λ v. e .struck-is v ∙ L3-same k cap;
       matched-is = λ v. e .matched-is v ∙ L4-same k;
       bound-is = λ v. e .bound-is v ∙ bound-same k cap;
+      none = e .none;
     }

@@ -1,6 +1,6 @@
 -- What an evaluation says of a marking, and what it is given of the pattern.
 -- Assumes nothing.
-use mathlib.Core.Bool.{Bool, true}
+use mathlib.Core.Bool.{true, false}
 use mathlib.Core.List.{List}
 use mathlib.Core.Path.{_≡_}
 use Prim.Native.Nat.{ℕ, suc, _-_, _≤_, _<_}
@@ -11,7 +11,7 @@ use Rattle.model.specs.declared.Part.the-variants.{Zero, One}
 use Rattle.model.specs.Limits.{lineLimit, nonzeroLimit}
 use Rattle.model.specs.Pattern.{Pattern, Inside, patternOf, lines, rowIn}
 use Rattle.model.specs.Split.{partNumber}
-use Rattle.model.specs.Marking.{Marking, place, taken, touched, valid}
+use Rattle.model.specs.Marking.{Marking, place, taken, valid}
 use Rattle.model.specs.Bound.{leans, L1, L2, L3, L4, bound}
 use Rattle.matching.specs.Starts.{rowStart}
 use Rattle.weighing.specs.declared.taking.Taken.{Taken}
@@ -30,11 +30,16 @@ pub record Listed (m n nonzeros : ℕ) (list starts : List ℕ) : Type 0 where
   pub rising : (t : ℕ) → suc t < nonzeros → rowIn list t ≤ rowIn list (suc t)
   pub started : (i : ℕ) → i ≤ 256 → getD starts i 0 ≡ rowStart (patternOf m n nonzeros list) i
 
--- the places of its lines
+-- the places of its lines, and 0 past them
 pub record Placed (P : Pattern) (places : List ℕ) : Type 0 where
   pub placed : (l : ℕ) → l < lines P → getD places l 0 ≡ place P l
+  pub others : (l : ℕ) → lines P ≤ l → l < 512 → getD places l 0 ≡ 0
 
--- what an evaluation says of a marking
+-- no L1 to L4 and no bound are given
+abbrev pub NoBound : Evaluation → Type 0
+NoBound r = (r .cut ≡ 0) × (r .torn ≡ 0) × (r .struck ≡ 0) × (r .matched ≡ 0) × (r .bound ≡ 0)
+
+-- what an evaluation says of a marking: all zero where it is not valid
 pub record Evaluates (P : Pattern) (cap : ℕ) (μ : Marking) (r : Evaluation) : Type 0 where
   pub valid-is : r .valid ≡ valid P cap μ
   pub zero-is : r .zero ≡ taken P μ Zero
@@ -44,6 +49,7 @@ pub record Evaluates (P : Pattern) (cap : ℕ) (μ : Marking) (r : Evaluation) :
   pub struck-is : r .valid ≡ true → r .struck ≡ L3 P cap μ
   pub matched-is : r .valid ≡ true → r .matched ≡ L4 P μ
   pub bound-is : r .valid ≡ true → r .bound ≡ bound P cap μ
+  pub none : r .valid ≡ false → NoBound r
 
 -- what the pass over the nonzeros answered and left, where it began with no line
 pub record TakenOn (P : Pattern) (μ : Marking) (r : Taken) (by-zero by-one : List ℕ) : Type 0 where

@@ -1,14 +1,12 @@
 // The evaluation of a marking, by line and by trail.
 use crate::Evaluation;
-use crate::fresh::no_leanings;
-use crate::fresh::no_lines;
-use crate::fresh::no_marks;
 use crate::lower::Lower;
 use crate::lower::lower_of;
 use crate::lower::room_of;
 use crate::tables::lines_of;
 use marking::marks::marks_by_line;
 use pattern::reading::long16;
+use pattern::splits::no_lines;
 use weighing::leaning::Kinds;
 use weighing::leaning::lean_all;
 use weighing::rows::take_lines;
@@ -22,14 +20,20 @@ ghost use lib.ListN.{length, getD};
 ghost use Rattle.model.specs.Pattern.{Pattern, patternOf};
 ghost use Rattle.model.specs.Marking.{Marking, marking};
 ghost use Rattle.model.specs.State.{arrayOf};
-ghost use Rattle.marking.specs.Marks.{markBy};
-ghost use Rattle.weighing.specs.Cells.{markingIn, Cleared};
+ghost use Rattle.weighing.specs.Cells.{markingIn};
 ghost use Rattle.weighing.specs.Taking.{validBy};
-ghost use Rattle.bound.specs.Evaluated.{Listed, Placed, TakenOn, Parts, Evaluates};
+ghost use Rattle.bound.specs.Evaluated.{Listed, Placed, TakenOn, Parts, NoBound, Evaluates};
+
+// No line leans.
+fn no_leanings() -> [u8; 512]
+    ensures { λ r. ⌜ ((l : ℕ) → l < 512 → getD r l 0 ≡ 2) ⌝ }
+{
+    [2u8; 512]
+}
 
 // The evaluation of a marking that is not valid.
 fn invalid(taken: Taken) -> Evaluation
-    ensures { λ r. ⌜ (r .valid ≡ false) × (r .zero ≡ taken .zero) × (r .one ≡ taken .one) ⌝ }
+    ensures { λ r. ⌜ (r .valid ≡ false) × (r .zero ≡ taken .zero) × (r .one ≡ taken .one) × NoBound r ⌝ }
 {
     Evaluation {
         valid: false,
@@ -134,15 +138,6 @@ pub fn evaluate_lines(
     }
 }
 
-// The mark of each line, from the marks of the first lines in order.
-pub fn marks_of(m: u8, n: u8, places: &[u16; 512], marks: &[u8; 240], len: usize) -> [u8; 512]
-    ensures { λ r. ⌜ ((l : ℕ) → l < m + n → markingIn r l ≡ markBy (now (marks .entry)) len (getD (now (places .entry)) l 0)) ⌝ }
-{
-    let mut by_line = no_marks();
-    marks_by_line(lines_of(m, n), places, marks, len, &mut by_line);
-    by_line
-}
-
 // The evaluation of a marking of the first lines in order, given by their marks.
 pub fn evaluate(
     m: u8,
@@ -160,6 +155,6 @@ pub fn evaluate(
         (τ : List ℕ) → length τ ≤ 240 → now (marks .entry) ≡ arrayOf τ → len ≡ length τ →
         Evaluates (patternOf m n nonzeros (now (list .entry))) cap (marking (patternOf m n nonzeros (now (list .entry))) τ) r) ⌝ }
 {
-    let by_line = marks_of(m, n, places, marks, len);
+    let by_line = marks_by_line(lines_of(m, n), places, marks, len);
     evaluate_lines(m, n, nonzeros, list, cap, starts, &by_line)
 }

@@ -1,6 +1,5 @@
 // A marking evaluated: what it takes, whether it is valid, and its bound.
 pub mod evaluating;
-pub mod fresh;
 pub mod lower;
 pub mod tables;
 

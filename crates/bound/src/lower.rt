@@ -19,7 +19,7 @@ pub struct Lower {
 }
 
 // The room that a part has left below the cap.
-pub fn room_of(cap: u64, taken: u16) -> u64
+pub(crate) fn room_of(cap: u64, taken: u16) -> u64
     ensures { λ r. ⌜ r ≡ cap - taken ⌝ }
 {
     let t = taken as u64;
@@ -38,7 +38,7 @@ fn matched_of(m: u8, lean: &[u8; 512], list: &[u8], starts: &[u16; 257], conflic
 }
 
 // L3 and L4, with the room that each part has left.
-pub fn lower_of(
+pub(crate) fn lower_of(
     m: u8,
     n: u8,
     nonzeros: u16,

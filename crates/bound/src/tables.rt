@@ -2,7 +2,7 @@
 use marking::order::line_counts;
 use marking::order::places_of;
 ghost use mathlib.Core.Path.{_≡_};
-ghost use Prim.Native.Nat.{ℕ, _+_, _<_};
+ghost use Prim.Native.Nat.{_+_};
 ghost use Rattle.model.specs.Pattern.{patternOf};
 ghost use Rattle.bound.specs.Evaluated.{Placed};
 

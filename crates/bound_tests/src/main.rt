@@ -1,7 +1,7 @@
 // Prints what an evaluation says of markings of several patterns, in the words of the list of expected bounds.
 use bound::Evaluation;
 use bound::evaluating::evaluate_lines;
-use bound::fresh::no_marks;
+use marking::marks::unmarked_lines;
 use matching::starts::row_starts;
 use pattern::reading::long16;
 use testing::laying::lay_marks;
@@ -32,7 +32,7 @@ fn say_all(e: Evaluation) {
 // The evaluation of a marking that is given by letters.
 fn show(m: u8, n: u8, nonzeros: u16, list: &[u8], cap: u64, text: &[u8]) {
     let starts = row_starts(list, nonzeros);
-    let mut marks = no_marks();
+    let mut marks = unmarked_lines();
     lay_marks(&mut marks, text);
     let e = evaluate_lines(m, n, nonzeros, list, cap, &starts, &marks);
     say(text);

@@ -10,9 +10,9 @@ use lib.Dec.{eqb}
 use borrow.Author.Tests.{eqb-true, eq-eqb}
 use Rattle.counting.specs.Tests.{_and_, bit}
 use Rattle.counting.specs.Sums.{sum, count}
-use Rattle.counting.proofs.Joined.{no-way, by-test, clash, and-intro, and-left, and-right, bit-true, bit-false, bit-le-one, bit-mono}
+use Rattle.counting.proofs.Joined.{by-test, clash, and-intro, and-left, and-right, bit-true, bit-false, bit-le-one, bit-mono}
 use Rattle.counting.proofs.Summed.{sum-le, sum-swap, sum-add}
-use Rattle.counting.proofs.Counted.{count-one, count-some, count-none, witness}
+use Rattle.counting.proofs.Counted.{count-one, count-some, witness}
 
 -- each f t is paid, and no l pays more than g l
 pub charge :

@@ -6,12 +6,13 @@ use mathlib.Core.Logic.{⊎-elim}
 use Prim.Native.Nat.{ℕ, zero, suc, _+_, _≤_, _<_}
 use native.Mathlib.Nat.{eq-or-lt-of-le, le-of-suc-le-suc}
 use native.Mathlib.Omega.{arith}
+use native.Mathlib.Numerals.{add-one}
 use lib.Dec.{ltb}
-use borrow.Author.Tests.{ltb-true, ltb-false, lt-ltb}
+use borrow.Author.Tests.{ltb-true, ltb-false, lt-ltb, le-ltb}
 use Rattle.counting.specs.Tests.{_and_, _or_, bit}
 use Rattle.counting.specs.Sums.{sum, count, any}
-use Rattle.counting.proofs.Joined.{no-way, by-test, clash, fails, bit-true, bit-false, bit-le-one, bit-mono, bit-parts}
-use Rattle.counting.proofs.Summed.{sum-le, sum-eq, sum-add, sum-zero, sum-term}
+use Rattle.counting.proofs.Joined.{no-way, by-test, clash, fails, or-left, or-right, or-fails, bit-true, bit-false, bit-le-one, bit-mono, bit-parts}
+use Rattle.counting.proofs.Summed.{sum-suc, sum-le, sum-eq, sum-add, sum-zero, sum-term}
 
 -- one test implies the other
 pub count-mono : (p q : ℕ → Bool) (n : ℕ) → ((t : ℕ) → t < n → p t ≡ true → q t ≡ true) → count p n ≤ count q n
@@ -114,3 +115,22 @@ any-fails p n t h b = fails (p t) (λ e. clash (any-intro p n t b e) h)
 
 pub any-none : (p : ℕ → Bool) (n : ℕ) → ((t : ℕ) → t < n → p t ≡ false) → any p n ≡ false
 any-none p n h = fails (any p n) (λ e. let w = any-elim p n e in clash (w .2) (h (w .0) (w .1)))
+
+-- one number more, as loops go
+pub count-more : (p : ℕ → Bool) (t : ℕ) → count p (t + 1) ≡ count p t + bit (p t)
+count-more p t = ap (count p) (add-one t) ∙ sum-suc (λ s. bit (p s)) t
+
+-- some number passes among one more just where some passed before or the last passes
+pub any-more : (p : ℕ → Bool) (t : ℕ) → any p (t + 1) ≡ any p t or p t
+unfolding any
+any-more p t = or-positive (count p t) (count p (t + 1)) (p t) (count-more p t)
+  where
+    or-positive : (k j : ℕ) (b : Bool) → j ≡ k + bit b → ltb 0 j ≡ ltb 0 k or b
+    or-positive k j b e =
+        by-test
+        (ltb 0 k)
+        (λ h. lt-ltb 0 j (omega (arith, ltb-true 0 k h)) ∙ sym (or-left b h))
+        (λ h. by-test
+        b
+        (λ y. lt-ltb 0 j (omega (arith, bit-true b y)) ∙ sym (or-right (ltb 0 k) y))
+        (λ n. le-ltb 0 j (omega (arith, bit-false b n, ltb-false 0 k h)) ∙ sym (or-fails h n)))

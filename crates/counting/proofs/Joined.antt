@@ -69,6 +69,18 @@ pub and-passed : {a : Bool} (b : Bool) → a ≡ true → a and b ≡ b
 unfolding _and_
 and-passed b h = rw h
 
+-- a test that passes adds nothing
+pub and-all : (a b : Bool) → b ≡ true → a and b ≡ a
+unfolding _and_
+and-all true b h = h
+and-all false b h = refl
+
+pub and-turned : (a b : Bool) → a and b ≡ b and a
+unfolding _and_
+and-turned true b = sym (and-all b true refl)
+and-turned false true = refl
+and-turned false false = refl
+
 pub and-cases : (a b : Bool) → a and b ≡ false → (a ≡ false) ⊎ (b ≡ false)
 unfolding _and_
 and-cases true b h = inr h
@@ -139,6 +151,9 @@ pub bit-le-one : (b : Bool) → bit b ≤ 1
 unfolding bit
 bit-le-one true = omega arith
 bit-le-one false = omega arith
+
+pub bit-small : (r : ℕ) (b : Bool) → r ≡ bit b → r ≤ 1
+bit-small r b e = omega (arith, bit-le-one b)
 
 -- the number of a test is monotone
 pub bit-mono : (a b : Bool) → (a ≡ true → b ≡ true) → bit a ≤ bit b

@@ -4,3 +4,5 @@ pub mod Counted
 pub mod Charged
 pub mod Grouped
 pub mod Found
+pub mod Passed
+pub mod Lists

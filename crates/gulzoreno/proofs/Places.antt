@@ -17,12 +17,12 @@ use Rattle.model.specs.declared.Verdict.the-variants.{Accepted, Refused}
 use Rattle.model.specs.declared.Search.{Search}
 use Rattle.model.specs.declared.ShowAnswer.the-variants as show-answer
 use Rattle.model.specs.Limits.{nonzeroLimit, capLimit, budgetLimit}
-use Rattle.model.specs.Refusal.{refusalNumber, refuse, _then_}
+use Rattle.model.specs.Refusal.{refusalNumber, refuse, _then_, eachVerdict}
 use Rattle.model.specs.Pattern.{entryBytes, rowIn, columnIn, patternOf}
 use Rattle.model.specs.Walk.{Record, rulesOf}
 use Rattle.model.specs.State.{recordOf, stateFine}
 use Rattle.model.specs.Calls.{sizesVerdict, rises, entryVerdict, entriesVerdict, listVerdict, openVerdict, showVerdict, shown, shownAfter, showCall}
-use Rattle.pattern.proofs.Verdicts.{then-first, nonzeros-small}
+use Rattle.model.proofs.Theorems.Checks.{then-first, nonzeros-small}
 use Rattle.gulzoreno.specs.Figures.{figuresBytes}
 use Rattle.gulzoreno.specs.Host.{outputVerdict, hostVerdict}
 
@@ -91,7 +91,7 @@ module _ (m n : ℕ) (list : List ℕ) where
       (λ e. refuse-to t (not (rises list t)) Order t (omega arith))
 
   entries-to : (size limit : ℕ) → size ≤ limit → PlaceTo limit (entriesVerdict m n list size)
-  unfolding entriesVerdict
+  unfolding eachVerdict
   entries-to zero limit h = tt
   entries-to (suc t) limit h =
       then-to

@@ -25,8 +25,8 @@ use Rattle.model.specs.State.{searchOf, stateFine}
 use Rattle.model.specs.Calls.{listVerdict, openVerdict, runVerdict, showVerdict, openCall, ranAfter, runCall, showCall, showParts, showCode}
 use Rattle.model.proofs.Walk.Reached.{walk-for}
 use Rattle.model.proofs.Walk.Ending.{fresh-tries}
-use Rattle.model.proofs.Theorems.Accepted.{open-accepted, then-first, then-second, refuse-not, refuse-no}
-use Rattle.pattern.proofs.Verdicts.{then-accepted}
+use Rattle.model.proofs.Theorems.Checks.{then-first, then-second, refuse-not, refuse-no, then-accepted}
+use Rattle.model.proofs.Theorems.Accepted.{open-accepted}
 use Rattle.search.specs.History.{acceptedBudget, Handed, handedSlice, History, opened, ran, showed}
 use Rattle.search.specs.Demand.{Demand, ShowAnswered}
 use Rattle.search.proofs.Demand3.{ended-budget, demand-3}
@@ -93,7 +93,6 @@ module _
   state-passes tries fine =
       then-accepted _ listed
       ∙ refuse-no
-      _
       State
       0
       (ap not (ap (λ (c : ℕ). stateFine (rulesOf P c) m n nonzeros (after tries)) (cap-kept tries) ∙ fine))
@@ -119,7 +118,6 @@ module _
   runs =
       then-accepted _ (state-passes 0 (at-start .fine))
       ∙ refuse-no
-      _
       Budget
       0
       (or-fails

@@ -6,7 +6,7 @@ ghost use mathlib.Core.Path.{_≡_};
 ghost use Rattle.gulzoreno.specs.Figures.{withFigure, withFigures};
 
 // Puts figure f, counted from 0.
-pub fn put_figure(out: &mut [u8], f: u8, x: u64)
+fn put_figure(out: &mut [u8], f: u8, x: u64)
     ensures { λ _. ⌜ now (out .exit) ≡ withFigure f x (now (out .entry)) ⌝ }
 {
     let at = 8 * wide(f);
@@ -20,7 +20,7 @@ pub fn put_figure(out: &mut [u8], f: u8, x: u64)
 }
 
 // Puts volume, tries, floor and complete.
-pub fn put_figures(out: &mut [u8], volume: u64, tries: u64, floor: u64, complete: bool)
+pub(crate) fn put_figures(out: &mut [u8], volume: u64, tries: u64, floor: u64, complete: bool)
     ensures { λ _. ⌜ now (out .exit) ≡ withFigures volume tries floor complete (now (out .entry)) ⌝ }
 {
     put_figure(out, 0, volume);

@@ -24,7 +24,7 @@ fn refusal_code(word: Word, place: u64) -> u64
 }
 
 // The checks after the opening: the budget, then the output slices.
-pub fn output_verdict(nonzeros: u64, budget: u64, parts: &[u8], figures: &[u8]) -> Verdict
+fn output_verdict(nonzeros: u64, budget: u64, parts: &[u8], figures: &[u8]) -> Verdict
     ensures { λ r. ⌜ r ≡ outputVerdict nonzeros budget (now (parts .entry)) (now (figures .entry)) ⌝ }
 {
     if 1_000_000 < budget {
@@ -40,7 +40,7 @@ pub fn output_verdict(nonzeros: u64, budget: u64, parts: &[u8], figures: &[u8]) 
 }
 
 // Runs a search once and shows it: the split in the parts and its figures, or "none yet", or a refusal.
-pub fn run_and_show(
+fn run_and_show(
     search: Search,
     m: u64,
     n: u64,

@@ -5,7 +5,7 @@ use mathlib.Core.Path.{_≡_, sym, _∙_, ap}
 use Prim.Native.Nat.{ℕ, _≤_, _<_}
 use native.Mathlib.Omega.{arith}
 use lib.Dec.{ltb}
-use lib.ListN.{length, getD}
+use lib.ListN.{length, getD, length-replicate, getD-replicate}
 use borrow.Author.Tests.{lt-ltb, le-ltb, ltb-true, ltb-false}
 use Rattle.counting.proofs.Joined.{by-test, and-intro, and-fails-left, and-fails-right, pick-true, pick-false}
 use Rattle.model.specs.Marking.{unmarked, markAt}
@@ -13,7 +13,7 @@ use Rattle.model.specs.State.{arrayOf}
 use Rattle.model.proofs.Order.Marks.{mark-past}
 use Rattle.model.proofs.Order.SplitMarks.{stack-mark}
 use Rattle.model.proofs.State.Arrays.{array-stack}
-use Rattle.marking.specs.Marks.{markBy}
+use Rattle.marking.specs.Marks.{markBy, unmarkedLines}
 
 -- the mark at a place
 pub mark-by : (marks : List ℕ) (len i : ℕ) → i < len → i < 240 → markBy marks len i ≡ getD marks i 0
@@ -40,3 +40,12 @@ mark-by-is τ i b =
     ∙ sym (stack-mark (λ j. getD (arrayOf τ) j 0) (length τ) i c)
     ∙ ap (λ (ν : List ℕ). markAt ν i) (array-stack τ b))
     (λ e. let c = ltb-false i (length τ) e in mark-by-past (arrayOf τ) (length τ) i c ∙ sym (mark-past τ i c))
+
+-- an array without a mark
+pub unmarked-length : length unmarkedLines ≡ 512
+unfolding unmarkedLines
+unmarked-length = length-replicate {A = ℕ} 512 unmarked
+
+pub unmarked-at : (l : ℕ) → l < 512 → getD unmarkedLines l 0 ≡ unmarked
+unfolding unmarkedLines
+unmarked-at l b = getD-replicate 512 l unmarked 0 b

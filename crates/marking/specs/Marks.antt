@@ -3,7 +3,7 @@
 use mathlib.Core.List.{List}
 use Prim.Native.Nat.{ℕ}
 use lib.Dec.{ltb}
-use lib.ListN.{getD}
+use lib.ListN.{getD, replicate}
 use Rattle.counting.specs.Tests.{_and_, pick}
 use Rattle.model.specs.Marking.{unmarked}
 
@@ -11,7 +11,10 @@ use Rattle.model.specs.Marking.{unmarked}
 unfoldable pub markBy : List ℕ → ℕ → ℕ → ℕ
 markBy marks len i = pick (ltb i len and ltb i 240) (getD marks i 0) unmarked
 
--- the mark of each of the first lines, and what stood there before for the others
-unfoldable pub markFor : ℕ → List ℕ → List ℕ → ℕ → List ℕ → ℕ → ℕ
-markFor lines places marks len earlier l =
-    pick (ltb l lines) (markBy marks len (getD places l 0)) (getD earlier l 0)
+-- the mark of each of the first lines, and `unmarked` for the others
+unfoldable pub markFor : ℕ → List ℕ → List ℕ → ℕ → ℕ → ℕ
+markFor lines places marks len l = pick (ltb l lines) (markBy marks len (getD places l 0)) unmarked
+
+-- no line is marked
+unfoldable pub unmarkedLines : List ℕ
+unmarkedLines = replicate 512 unmarked

@@ -1,4 +1,6 @@
+pub mod Checks
 pub mod Accepted
+pub mod OfList
 pub mod Least
 pub mod Ends
 pub mod Replies

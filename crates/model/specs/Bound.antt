@@ -13,11 +13,11 @@ use Rattle.model.specs.declared.Mark.the-variants.{To, Cut}
 use Rattle.model.specs.declared.Condition.{Condition}
 use Rattle.model.specs.declared.Condition.the-variants.{Marked, Torn, Leaning, Untouched}
 use Rattle.model.specs.Pattern.{Pattern, lines, rowLine, columnLine, on}
-use Rattle.model.specs.Split.{samePart, other}
+use Rattle.model.specs.Split.{samePart}
 use Rattle.model.specs.Marking.{Marking, takes, taken, condition}
 
 -- marked cut
-unfoldable pub saysCut : Condition → Bool
+abbrev pub saysCut : Condition → Bool
 saysCut (Marked (To p)) = false
 saysCut (Marked Cut) = true
 saysCut Torn = false
@@ -25,7 +25,7 @@ saysCut (Leaning p) = false
 saysCut Untouched = false
 
 -- torn
-unfoldable pub saysTorn : Condition → Bool
+abbrev pub saysTorn : Condition → Bool
 saysTorn (Marked mark) = false
 saysTorn Torn = true
 saysTorn (Leaning p) = false

@@ -20,7 +20,7 @@ use Rattle.model.specs.declared.Ran.{Ran}
 use Rattle.model.specs.declared.ShowAnswer.{ShowAnswer}
 use Rattle.model.specs.declared.ShowAnswer.the-variants as show-answer
 use Rattle.model.specs.Limits.{lineLimit, nonzeroLimit, capLimit, percentLimit, budgetLimit, triesLimit}
-use Rattle.model.specs.Refusal.{Reply, given, noneYet, refusal, replyAfter, verdictReply, replyCode, refuse, _then_}
+use Rattle.model.specs.Refusal.{Reply, given, noneYet, refusal, replyAfter, verdictReply, replyCode, refuse, _then_, eachVerdict}
 use Rattle.model.specs.Pattern.{Pattern, entryBytes, rowIn, columnIn, patternOf}
 use Rattle.model.specs.Split.{Split, partNumber, volume, capFromPercent}
 use Rattle.model.specs.Marking.{marking}
@@ -53,9 +53,8 @@ entryVerdict m n list t =
     then refuse (not (rises list t)) Order t
 
 -- per nonzero, in number order
-unfoldable pub entriesVerdict : ℕ → ℕ → List ℕ → ℕ → Verdict
-entriesVerdict m n list zero = Accepted
-entriesVerdict m n list (suc t) = entriesVerdict m n list t then entryVerdict m n list t
+abbrev pub entriesVerdict : ℕ → ℕ → List ℕ → ℕ → Verdict
+entriesVerdict m n list = eachVerdict (entryVerdict m n list)
 
 -- the checks of a list: 4, 9, then per nonzero 5, 10
 unfoldable pub listVerdict : ℕ → ℕ → ℕ → List ℕ → Verdict

@@ -6,7 +6,7 @@ use Prim.Native.Nat.{ℕ, _+_, _*_, _<_}
 use lib.Dec.{eqb, ltb}
 use lib.ListN.{getD}
 use Rattle.counting.specs.Tests.{_or_}
-use Rattle.counting.specs.Sums.{count, any}
+use Rattle.counting.specs.Sums.{count}
 
 -- the bytes that a nonzero takes in a list
 abbrev pub entryBytes : ℕ

@@ -2,7 +2,7 @@
 -- Assumes nothing.
 use mathlib.Core.Bool.{Bool, true, false}
 use mathlib.Core.List.{List, []}
-use Prim.Native.Nat.{ℕ, _+_, _*_}
+use Prim.Native.Nat.{ℕ, zero, suc, _+_, _*_}
 use Rattle.model.specs.declared.Word.{Word}
 use Rattle.model.specs.declared.Word.the-variants.{Banner, SizeLine, EntryForm, TooBig, OffMatrix, Repeated, Count, BadPart, ShortBuffer, Order, Cap, NoSplit, Budget, State}
 use Rattle.model.specs.declared.Verdict.{Verdict}
@@ -35,6 +35,11 @@ infixl 20 _then_
 unfoldable pub _then_ : Verdict → Verdict → Verdict
 Accepted then later = later
 Refused word place then later = Refused word place
+
+-- a check of each of the first numbers, in number order
+unfoldable pub eachVerdict : (ℕ → Verdict) → ℕ → Verdict
+eachVerdict check zero = Accepted
+eachVerdict check (suc t) = eachVerdict check t then check t
 
 -- reply: what an answer is in this paper's numbers: 0, 255 for "none yet", or a refusal's number; a refusal's place, else 0; and the values given
 pub record Reply : Type 0 where

@@ -3,7 +3,6 @@
 -- Assumes nothing.
 use mathlib.Core.Bool.{Bool, true, false}
 use mathlib.Core.List.{List, [], _∷_}
-use mathlib.Core.Option.{some, none}
 use mathlib.Core.Path.{_≡_, refl}
 use Prim.Native.Nat.{ℕ, zero, suc, _+_, min}
 use lib.Dec.{eqb, leb}
@@ -22,13 +21,13 @@ use Rattle.model.specs.declared.ShowAnswer.{ShowAnswer}
 use Rattle.model.specs.declared.ShowAnswer.the-variants.{NoneYet}
 use Rattle.model.specs.declared.ShowAnswer.the-variants as show-answer
 use Rattle.model.specs.Pattern.{Pattern, rowIn, columnIn, patternOf, lines, rowLine, columnLine, on, lineCount, nonempty, lineTotal}
-use Rattle.model.specs.Split.{Split, samePart, holds, isCut, partsOn, volume, load, capFromPercent}
+use Rattle.model.specs.Split.{Split, holds, isCut, partsOn, volume, load, capFromPercent}
 use Rattle.model.specs.Marking.{Marking, precedes, place, markAt, marking, takes, taken, valid, touched, conditionFor, condition}
-use Rattle.model.specs.Bound.{saysCut, saysTorn, saysLeaning, leans, L1, L2, L3, L4, untaken, atStake, untakenOn, falling, leaningCounts, strikes, struck, conflict, mostChosen, bound}
-use Rattle.model.specs.Walk.{Record, Rules, rulesOf, fresh, freshOf, givesPart, oneAllowed, afterZero, advance, cuts, isEmpty, tried, improved, stands, outcome, tryOnce, step, walk, walked, putLater, beginningsLater, openMarkings, leastBound, floor, filled, shownSplit}
-use Rattle.model.specs.Refusal.{refusalCode, given, noneYet, refusal, replyAfter, verdictReply, replyCode, verdictCode, refuse, _then_}
+use Rattle.model.specs.Bound.{saysLeaning, leans, L1, L2, L3, L4, untaken, atStake, untakenOn, falling, leaningCounts, strikes, struck, conflict, mostChosen, bound}
+use Rattle.model.specs.Walk.{rulesOf, fresh, freshOf, givesPart, oneAllowed, afterZero, advance, cuts, isEmpty, tried, improved, stands, outcome, tryOnce, step, walk, walked, putLater, beginningsLater, openMarkings, leastBound, floor, filled, shownSplit}
+use Rattle.model.specs.Refusal.{refusalCode, given, noneYet, refusal, replyAfter, verdictReply, replyCode, verdictCode, refuse, _then_, eachVerdict}
 use Rattle.model.specs.State.{stack, marksIn, bestIn, recordOf, arrayOf, trailOf, isFound, bestOr, searchOf, areMarks, startsWithZero, beginningsValid, trailFine, bestFine, stateFine}
-use Rattle.model.specs.Calls.{outside, sizesVerdict, rises, entryVerdict, entriesVerdict, listVerdict, openVerdict, runVerdict, showVerdict, capVerdict, capAfter, capCall, noRecord, openedAfter, openCall, ended, ranRecord, ranAfter, runCall, shownFrom, shown, partBytes, shownParts, shownAfter, partsAfter, showCall, showParts, completeNumber, capReply, runReply, showReply}
+use Rattle.model.specs.Calls.{outside, sizesVerdict, rises, entryVerdict, listVerdict, openVerdict, runVerdict, showVerdict, capVerdict, capAfter, capCall, noRecord, openedAfter, openCall, ended, ranRecord, ranAfter, runCall, shownFrom, shown, partBytes, shownParts, shownAfter, partsAfter, showCall, showParts, completeNumber, capReply, runReply, showReply}
 
 -- part p for nonzero t, and another split's parts for the others
 unfoldable pub withPart : Split → ℕ → Part → Split
@@ -109,7 +108,7 @@ cornerMarking l = getD (3 ∷ 1 ∷ 0 ∷ 3 ∷ []) l 3
 
 -- to unfold this is to unfold every definition that a sample computes with
 computing : Type 0
-unfolding _and_ _or_ pick bit sum any rowIn columnIn patternOf lines rowLine columnLine on lineCount nonempty lineTotal samePart holds isCut partsOn volume load capFromPercent precedes place markAt marking takes taken valid touched conditionFor condition saysCut saysTorn saysLeaning leans L1 L2 L3 L4 untaken atStake untakenOn falling leaningCounts strikes struck conflict mostChosen bound rulesOf fresh givesPart oneAllowed afterZero advance cuts isEmpty tried improved stands outcome tryOnce step walk putLater beginningsLater openMarkings leastBound floor filled shownSplit refusalCode given noneYet refusal replyAfter verdictReply replyCode verdictCode refuse _then_ stack marksIn bestIn recordOf arrayOf trailOf isFound bestOr searchOf areMarks startsWithZero beginningsValid trailFine bestFine stateFine outside sizesVerdict rises entryVerdict entriesVerdict listVerdict openVerdict runVerdict showVerdict capVerdict capAfter capCall freshOf noRecord openedAfter openCall ended ranRecord ranAfter runCall shownFrom shown partBytes shownParts shownAfter partsAfter showCall showParts completeNumber capReply runReply showReply withPart leastAmong leastVolume walked standsAt showsParts
+unfolding _and_ _or_ pick bit sum any rowIn columnIn patternOf lines rowLine columnLine on lineCount nonempty lineTotal holds isCut partsOn volume load capFromPercent precedes place markAt marking takes taken valid touched conditionFor condition saysLeaning leans L1 L2 L3 L4 untaken atStake untakenOn falling leaningCounts strikes struck conflict mostChosen bound rulesOf fresh givesPart oneAllowed afterZero advance cuts isEmpty tried improved stands outcome tryOnce step walk putLater beginningsLater openMarkings leastBound floor filled shownSplit refusalCode given noneYet refusal replyAfter verdictReply replyCode verdictCode refuse _then_ stack marksIn bestIn recordOf arrayOf trailOf isFound bestOr searchOf areMarks startsWithZero beginningsValid trailFine bestFine stateFine outside sizesVerdict rises entryVerdict eachVerdict listVerdict openVerdict runVerdict showVerdict capVerdict capAfter capCall freshOf noRecord openedAfter openCall ended ranRecord ranAfter runCall shownFrom shown partBytes shownParts shownAfter partsAfter showCall showParts completeNumber capReply runReply showReply withPart leastAmong leastVolume walked standsAt showsParts
 computing = Unit
 
 -- the samples marked P
@@ -244,7 +243,7 @@ pub record CallSamples : Type 0 where
   pub percent-taken : capCall 233 3 ≡ cap-answer.Capped 119
   pub percent-refused : capCall 233 101 ≡ cap-answer.Refused Cap 0
   pub percent-too-big : capCall 2001 101 ≡ cap-answer.Refused TooBig 0
-  -- the same in numbers
+  -- what calls reply in numbers
   pub begun-reply : showReply (showCall (begun .search) 2 2 2 diagonalList (7 ∷ 7 ∷ [])) ≡ record { number = 255; place = 0; values = 0 ∷ [] }
   pub finished-reply : runReply (finished .answer) ≡ record { number = 0; place = 0; values = 1 ∷ [] }
   pub percent-reply : capReply (capCall 233 3) ≡ record { number = 0; place = 0; values = 119 ∷ [] }

@@ -19,7 +19,7 @@ other Zero = One
 other One = Zero
 
 -- the two parts are the same
-unfoldable pub samePart : Part → Part → Bool
+abbrev pub samePart : Part → Part → Bool
 samePart Zero Zero = true
 samePart Zero One = false
 samePart One Zero = false

@@ -6,10 +6,10 @@ use mathlib.Core.Option.{Option, some, none}
 use Prim.Native.Nat.{ℕ, zero, suc, _+_, _*_}
 use lib.Dec.{eqb, leb}
 use lib.ListN.{length, getD, set, replicate}
-use Rattle.counting.specs.Tests.{_and_, _or_, pick}
+use Rattle.counting.specs.Tests.{_and_, _or_}
 use Rattle.trail.specs.declared.Trail.{Trail}
 use Rattle.model.specs.declared.Mark.the-variants.{To, Cut}
-use Rattle.model.specs.declared.Part.the-variants.{Zero, One}
+use Rattle.model.specs.declared.Part.the-variants.{One}
 use Rattle.model.specs.declared.Search.{Search}
 use Rattle.model.specs.Limits.{lineLimit, capLimit, triesLimit}
 use Rattle.model.specs.Marking.{markNumber}

@@ -1,15 +1,13 @@
 -- Document 01, 'The walk': the record, fresh, one try, advance, the walk after n tries, open markings, floor and shown split.
 -- What the walk asks of a marking is a parameter, `Rules`; the paper's walk is the one with the rules of a pattern and a cap.
 -- Assumes nothing.
-use mathlib.Core.Bool.{Bool, true, false, not}
+use mathlib.Core.Bool.{Bool, true, false}
 use mathlib.Core.List.{List, [], _∷_, _++_}
 use mathlib.Core.Option.{Option, some, none}
 use Prim.Native.Nat.{ℕ, zero, suc, _+_, min}
 use lib.Dec.{eqb, ltb}
 use lib.ListN.{length}
 use Rattle.counting.specs.Tests.{_and_, _or_, pick, bit}
-use Rattle.counting.specs.Sums.{sum}
-use Rattle.model.specs.declared.Part.{Part}
 use Rattle.model.specs.declared.Part.the-variants.{Zero, One}
 use Rattle.model.specs.declared.Mark.the-variants.{To, Cut}
 use Rattle.model.specs.Pattern.{Pattern, lineTotal}

@@ -11,38 +11,37 @@ use Rattle.model.specs.declared.Word.{Word}
 use Rattle.model.specs.declared.Word.the-variants.{BadPart, ShortBuffer}
 use Rattle.model.specs.declared.Verdict.{Verdict}
 use Rattle.model.specs.declared.Verdict.the-variants.{Accepted, Refused}
-use Rattle.model.specs.Refusal.{given, replyAfter}
+use Rattle.model.specs.Refusal.{given, replyAfter, eachVerdict}
 use Rattle.model.specs.Pattern.{patternOf}
 use Rattle.model.specs.Split.{volume, load}
 use Rattle.model.specs.Calls.{sizesVerdict, listVerdict}
 use Rattle.pattern.specs.declared.Measured.{Measured}
 use Rattle.pattern.specs.declared.Measured.the-variants as measured
-use Rattle.pattern.specs.Checks.{eachVerdict}
 use Rattle.pattern.specs.Splits.{splitOf, loadOf}
 use Rattle.pattern.specs.Measures.{partVerdict, partsVerdict, measureVerdict, measuredAfter, volumeCall, loadCall, measuredReply}
-use Rattle.pattern.proofs.Verdicts.{refuse-true, refuse-false, then-accepted, then-refused, then-first}
+use Rattle.model.proofs.Theorems.Checks.{refuse-so, refuse-no, then-accepted, then-refused, then-first}
 use Rattle.pattern.proofs.Lines.{load-is}
 
 module _ (parts : List ℕ) (t byte : ℕ) (e : byte ≡ getD parts t 0) where
   -- a part byte above 1 is refused, with its nonzero's number
   pub part-bad : 1 < byte → partVerdict parts t ≡ Refused BadPart t
   unfolding partVerdict
-  part-bad h = refuse-true BadPart t (lt-ltb 1 (getD parts t 0) (omega arith))
+  part-bad h = refuse-so BadPart t (lt-ltb 1 (getD parts t 0) (omega arith))
 
   pub part-fine : byte ≤ 1 → partVerdict parts t ≡ Accepted
   unfolding partVerdict
-  part-fine h = refuse-false BadPart t (le-ltb 1 (getD parts t 0) (omega arith))
+  part-fine h = refuse-no BadPart t (le-ltb 1 (getD parts t 0) (omega arith))
 
 -- parts that are too few, or enough
 pub parts-short : (nonzeros : ℕ) (parts : List ℕ) → length parts < nonzeros → partsVerdict nonzeros parts ≡ Refused ShortBuffer 0
 unfolding partsVerdict
-parts-short nonzeros parts h = then-refused _ (refuse-true ShortBuffer 0 (lt-ltb (length parts) nonzeros h))
+parts-short nonzeros parts h = then-refused _ (refuse-so ShortBuffer 0 (lt-ltb (length parts) nonzeros h))
 
 pub parts-each :
     (nonzeros : ℕ) (parts : List ℕ) → nonzeros ≤ length parts →
     partsVerdict nonzeros parts ≡ eachVerdict (partVerdict parts) nonzeros
 unfolding partsVerdict
-parts-each nonzeros parts h = then-accepted _ (refuse-false ShortBuffer 0 (le-ltb (length parts) nonzeros h))
+parts-each nonzeros parts h = then-accepted _ (refuse-no ShortBuffer 0 (le-ltb (length parts) nonzeros h))
 
 module _ (m n nonzeros : ℕ) (list parts : List ℕ) where
   pub measure-list :

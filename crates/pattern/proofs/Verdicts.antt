@@ -1,63 +1,27 @@
--- Laws of checks made one after another.
+-- The checks of sizes, of a nonzero and of a list, as the code makes them.
 -- Assumes nothing.
 use mathlib.Core.Bool.{Bool, true, false, not}
 use mathlib.Core.List.{List}
 use mathlib.Core.Path.{_≡_, refl, sym, _∙_, ap}
-use mathlib.Core.Logic.{⊎-elim}
-use Prim.Native.Nat.{ℕ, zero, suc, _+_, _-_, _*_, _≤_, _<_}
-use native.Mathlib.Nat.{eq-or-lt-of-le, le-of-suc-le-suc}
-use native.Mathlib.Numerals.{add-one}
+use Prim.Native.Nat.{ℕ, zero, suc, _-_, _*_, _≤_, _<_}
 use native.Mathlib.Omega.{arith}
 use denote.Enum.Declared.{tagOf, declared}
 use lib.Dec.{ltb, leb, eqb}
 use lib.ListN.{length}
-use borrow.Author.Tests.{ltb-false, lt-ltb, le-ltb, le-leb, lt-leb, eq-eqb, ne-eqb}
+use borrow.Author.Tests.{lt-ltb, le-ltb, le-leb, lt-leb, eq-eqb, ne-eqb}
 use Rattle.counting.specs.Tests.{_and_, _or_}
-use Rattle.counting.proofs.Joined.{no-way, and-fails-left, or-left, or-right, or-fails, or-fails-left, or-fails-right, never}
+use Rattle.counting.proofs.Joined.{no-way, and-fails-left, or-left, or-right, or-fails}
 use Rattle.model.proofs.Verdict.{enum}
 use Rattle.model.specs.declared.Word.{Word}
 use Rattle.model.specs.declared.Word.the-variants.{TooBig, OffMatrix, ShortBuffer, Order}
 use Rattle.model.specs.declared.Verdict.{Verdict}
 use Rattle.model.specs.declared.Verdict.the-variants.{Accepted, Refused}
 use Rattle.model.specs.Limits.{lineLimit, nonzeroLimit}
-use Rattle.model.specs.Refusal.{refuse, _then_}
+use Rattle.model.specs.Refusal.{_then_}
 use Rattle.model.specs.Pattern.{rowIn, columnIn}
 use Rattle.model.specs.Calls.{outside, sizesVerdict, rises, entryVerdict, entriesVerdict, listVerdict, openVerdict}
-use Rattle.pattern.specs.Checks.{offMatrix, capsVerdict, eachVerdict}
-
--- a check whose test passes refuses
-pub refuse-true : {b : Bool} (word : Word) (place : ℕ) → b ≡ true → refuse b word place ≡ Refused word place
-unfolding refuse
-refuse-true word place h = rw h
-
--- a check whose test fails refuses nothing
-pub refuse-false : {b : Bool} (word : Word) (place : ℕ) → b ≡ false → refuse b word place ≡ Accepted
-unfolding refuse
-refuse-false word place h = rw h
-
--- after a check that refuses nothing, the next one counts
-pub then-accepted : {v : Verdict} (w : Verdict) → v ≡ Accepted → (v then w) ≡ w
-unfolding _then_
-then-accepted w h = rw h
-
--- after a refusal nothing else counts
-pub then-refused :
-    {v : Verdict} {word : Word} {place : ℕ} (w : Verdict) →
-    v ≡ Refused word place → (v then w) ≡ Refused word place
-unfolding _then_
-then-refused w h = rw h
-
--- checks that refuse nothing: the first refuses nothing
-pub then-first : (u v : Verdict) → (u then v) ≡ Accepted → u ≡ Accepted
-unfolding _then_
-then-first Accepted v h = refl
-then-first (Refused word place) v h = h
-
--- checks may be grouped
-pub then-assoc : (u v w : Verdict) → (u then v then w) ≡ (u then (v then w))
-unfolding _then_
-then-assoc Accepted v w = refl
-then-assoc (Refused word place) v w = refl
+use Rattle.model.proofs.Theorems.Checks.{refuse-so, refuse-no, then-accepted, then-refused, then-assoc}
+use Rattle.pattern.specs.Checks.{offMatrix, capsVerdict}
 
 -- the tests of the sizes
 unfoldable pub tooBig : ℕ → ℕ → ℕ → Bool
@@ -67,7 +31,7 @@ tooBig m n nonzeros =
 module _ (m n nonzeros : ℕ) where
   sizes-refused : tooBig m n nonzeros ≡ true → sizesVerdict m n nonzeros ≡ Refused TooBig 0
   unfolding sizesVerdict tooBig
-  sizes-refused h = refuse-true TooBig 0 h
+  sizes-refused h = refuse-so TooBig 0 h
 
   -- a size outside its range is refused, whichever it is
   pub rows-refused : outside lineLimit m ≡ true → sizesVerdict m n nonzeros ≡ Refused TooBig 0
@@ -97,72 +61,10 @@ module _ (m n nonzeros : ℕ) where
       nonzeros ≤ nonzeroLimit → nonzeros ≤ m * n → sizesVerdict m n nonzeros ≡ Accepted
   unfolding sizesVerdict
   sizes-fine a b c d =
-      refuse-false
+      refuse-no
       TooBig
       0
       (or-fails (or-fails (or-fails a b) (le-ltb nonzeroLimit nonzeros c)) (le-ltb (m * n) nonzeros d))
-
--- a number of lines in its range is at most the limit
-pub inside-limit : (x : ℕ) → outside lineLimit x ≡ false → x ≤ lineLimit
-unfolding outside
-inside-limit x h = ltb-false lineLimit x (or-fails-right (eqb x 0) (ltb lineLimit x) h)
-
--- sizes that are accepted are small
-small : (b : Bool) → refuse b TooBig 0 ≡ Accepted → b ≡ false
-unfolding refuse
-small true h = never (cc)
-small false h = refl
-
-module _ (m n nonzeros : ℕ) (fine : sizesVerdict m n nonzeros ≡ Accepted) where
-  all-fail : tooBig m n nonzeros ≡ false
-  unfolding sizesVerdict tooBig
-  all-fail = small (tooBig m n nonzeros) fine
-
-  first-fail : outside lineLimit m or outside lineLimit n or ltb nonzeroLimit nonzeros ≡ false
-  unfolding tooBig
-  first-fail = or-fails-left _ (ltb (m * n) nonzeros) all-fail
-
-  lines-fail : outside lineLimit m or outside lineLimit n ≡ false
-  lines-fail = or-fails-left _ (ltb nonzeroLimit nonzeros) first-fail
-
-  pub rows-small : m ≤ lineLimit
-  rows-small = inside-limit m (or-fails-left (outside lineLimit m) (outside lineLimit n) lines-fail)
-
-  pub columns-small : n ≤ lineLimit
-  columns-small = inside-limit n (or-fails-right (outside lineLimit m) (outside lineLimit n) lines-fail)
-
-  pub nonzeros-small : nonzeros ≤ nonzeroLimit
-  nonzeros-small =
-      ltb-false
-      nonzeroLimit
-      nonzeros
-      (or-fails-right (outside lineLimit m or outside lineLimit n) (ltb nonzeroLimit nonzeros) first-fail)
-
--- one number more
-pub each-more :
-    (check : ℕ → Verdict) (t : ℕ) → eachVerdict check t ≡ Accepted → check t ≡ Accepted →
-    eachVerdict check (t + 1) ≡ Accepted
-unfolding eachVerdict
-each-more check t h e = rw add-one (then-accepted (check t) h ∙ e)
-
--- the first refusal is that of every larger count
-pub each-stop :
-    (check : ℕ → Verdict) (t : ℕ) (word : Word) (place n : ℕ) →
-    eachVerdict check t ≡ Accepted → check t ≡ Refused word place → t < n → eachVerdict check n ≡ Refused word place
-unfolding eachVerdict
-each-stop check t word place zero h e b = no-way (omega arith)
-each-stop check t word place (suc k) h e b =
-    ⊎-elim
-    (λ q. ap (λ x. eachVerdict check x then check x) (sym q) ∙ then-accepted (check t) h ∙ e)
-    (λ l. then-refused (check k) (each-stop check t word place k h e l))
-    (eq-or-lt-of-le (le-of-suc-le-suc b))
-
--- the checks per nonzero are such checks
-pub entries-each :
-    (m n : ℕ) (list : List ℕ) (t : ℕ) → entriesVerdict m n list t ≡ eachVerdict (entryVerdict m n list) t
-unfolding entriesVerdict eachVerdict
-entries-each m n list zero = refl
-entries-each m n list (suc t) = ap (λ v. v then entryVerdict m n list t) (entries-each m n list t)
 
 -- a verdict with the first tag is no refusal
 pub accepted-tag : (v : Verdict) → tagOf (declared enum) v ≡ 0 → v ≡ Accepted
@@ -231,15 +133,15 @@ module _ (m n : ℕ) (list : List ℕ) (t : ℕ) where
 
   pub entry-off : offMatrix m n list t ≡ true → entryVerdict m n list t ≡ Refused OffMatrix t
   unfolding entryVerdict offMatrix
-  entry-off h = then-refused _ (refuse-true OffMatrix t h)
+  entry-off h = then-refused _ (refuse-so OffMatrix t h)
 
   pub entry-fine : offMatrix m n list t ≡ false → rises list t ≡ true → entryVerdict m n list t ≡ Accepted
   unfolding entryVerdict offMatrix
-  entry-fine h r = then-accepted _ (refuse-false OffMatrix t h) ∙ refuse-false Order t (ap not r)
+  entry-fine h r = then-accepted _ (refuse-no OffMatrix t h) ∙ refuse-no Order t (ap not r)
 
   pub entry-order : offMatrix m n list t ≡ false → rises list t ≡ false → entryVerdict m n list t ≡ Refused Order t
   unfolding entryVerdict offMatrix
-  entry-order h r = then-accepted _ (refuse-false OffMatrix t h) ∙ refuse-true Order t (ap not r)
+  entry-order h r = then-accepted _ (refuse-no OffMatrix t h) ∙ refuse-so Order t (ap not r)
 
 module _ (m n nonzeros : ℕ) (list : List ℕ) where
   pub list-sizes :
@@ -252,14 +154,14 @@ module _ (m n nonzeros : ℕ) (list : List ℕ) where
       sizesVerdict m n nonzeros ≡ Accepted → length list < 2 * nonzeros →
       listVerdict m n nonzeros list ≡ Refused ShortBuffer 0
   unfolding listVerdict
-  list-short h l = then-refused _ (then-accepted _ h ∙ refuse-true ShortBuffer 0 (lt-ltb (length list) (2 * nonzeros) l))
+  list-short h l = then-refused _ (then-accepted _ h ∙ refuse-so ShortBuffer 0 (lt-ltb (length list) (2 * nonzeros) l))
 
   pub list-entries :
       sizesVerdict m n nonzeros ≡ Accepted → 2 * nonzeros ≤ length list →
       listVerdict m n nonzeros list ≡ entriesVerdict m n list nonzeros
   unfolding listVerdict
   list-entries h l =
-      then-accepted _ (then-accepted _ h ∙ refuse-false ShortBuffer 0 (le-ltb (length list) (2 * nonzeros) l))
+      then-accepted _ (then-accepted _ h ∙ refuse-no ShortBuffer 0 (le-ltb (length list) (2 * nonzeros) l))
 
 -- an opening: the list's checks, then the cap's
 pub open-is :

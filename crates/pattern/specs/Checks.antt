@@ -2,12 +2,11 @@
 -- Assumes nothing.
 use mathlib.Core.Bool.{Bool}
 use mathlib.Core.List.{List}
-use Prim.Native.Nat.{ℕ, zero, suc, _*_}
+use Prim.Native.Nat.{ℕ, _*_}
 use lib.Dec.{ltb, leb}
 use Rattle.counting.specs.Tests.{_or_}
 use Rattle.model.specs.declared.Word.the-variants.{Cap, NoSplit}
 use Rattle.model.specs.declared.Verdict.{Verdict}
-use Rattle.model.specs.declared.Verdict.the-variants.{Accepted}
 use Rattle.model.specs.Limits.{capLimit}
 use Rattle.model.specs.Refusal.{refuse, _then_}
 use Rattle.model.specs.Pattern.{rowIn, columnIn}
@@ -19,8 +18,3 @@ offMatrix m n list t = leb m (rowIn list t) or leb n (columnIn list t)
 -- 11, 12: cap outside its range; N above 2 × cap
 unfoldable pub capsVerdict : ℕ → ℕ → Verdict
 capsVerdict nonzeros cap = refuse (ltb capLimit cap) Cap 0 then refuse (ltb (2 * cap) nonzeros) NoSplit 0
-
--- a check of each of the first numbers, in order
-unfoldable pub eachVerdict : (ℕ → Verdict) → ℕ → Verdict
-eachVerdict check zero = Accepted
-eachVerdict check (suc t) = eachVerdict check t then check t

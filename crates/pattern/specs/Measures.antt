@@ -8,13 +8,12 @@ use Rattle.model.specs.declared.Part.{Part}
 use Rattle.model.specs.declared.Word.the-variants.{BadPart, ShortBuffer}
 use Rattle.model.specs.declared.Verdict.{Verdict}
 use Rattle.model.specs.declared.Verdict.the-variants.{Accepted, Refused}
-use Rattle.model.specs.Refusal.{Reply, given, refusal, replyAfter, refuse, _then_}
+use Rattle.model.specs.Refusal.{Reply, given, refusal, replyAfter, refuse, _then_, eachVerdict}
 use Rattle.model.specs.Pattern.{patternOf}
 use Rattle.model.specs.Split.{volume, load}
 use Rattle.model.specs.Calls.{listVerdict}
 use Rattle.pattern.specs.declared.Measured.{Measured}
 use Rattle.pattern.specs.declared.Measured.the-variants as measured
-use Rattle.pattern.specs.Checks.{eachVerdict}
 use Rattle.pattern.specs.Splits.{splitOf}
 
 -- 8: the part byte of nonzero t is above 1

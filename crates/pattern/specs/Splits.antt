@@ -1,4 +1,4 @@
--- A split given as bytes, and the lines that a part holds, noted nonzero by nonzero.
+-- A split given as bytes, and the lines that a part holds, held nonzero by nonzero.
 -- Assumes nothing.
 use mathlib.Core.Bool.{Bool}
 use mathlib.Core.List.{List}
@@ -24,24 +24,24 @@ inPart parts p t = samePart p (splitOf parts t)
 unfoldable pub loadOf : List ℕ → ℕ → Part → ℕ
 loadOf parts nonzeros p = count (inPart parts p) nonzeros
 
--- no line noted; there are 512 places, which is more than 255 + 255
+-- no line held; there are 512 places, which is more than 255 + 255
 unfoldable pub noLines : List ℕ
 noLines = replicate 512 0
 
--- both lines of nonzero t noted, where it is in part p
-unfoldable pub noted : ℕ → List ℕ → List ℕ → Part → ℕ → List ℕ → List ℕ
-noted m list parts p t held =
+-- both lines of nonzero t held, where it is in part p
+unfoldable pub heldWith : ℕ → List ℕ → List ℕ → Part → ℕ → List ℕ → List ℕ
+heldWith m list parts p t held =
     pick (inPart parts p t) (set (set held (rowIn list t) 1) (m + columnIn list t) 1) held
 
--- the lines of the first nonzeros noted
+-- the lines of the first nonzeros held
 unfoldable pub heldLines : ℕ → List ℕ → List ℕ → Part → ℕ → List ℕ
 heldLines m list parts p zero = noLines
-heldLines m list parts p (suc t) = noted m list parts p t (heldLines m list parts p t)
+heldLines m list parts p (suc t) = heldWith m list parts p t (heldLines m list parts p t)
 
--- line l is noted
-unfoldable pub isNoted : List ℕ → ℕ → Bool
-isNoted held l = eqb (getD held l 0) 1
+-- line l is held
+unfoldable pub isHeld : List ℕ → ℕ → Bool
+isHeld held l = eqb (getD held l 0) 1
 
--- line l is noted in both lists
-unfoldable pub bothNoted : List ℕ → List ℕ → ℕ → Bool
-bothNoted zeros ones l = isNoted zeros l and isNoted ones l
+-- line l is held in both lists
+unfoldable pub bothHeld : List ℕ → List ℕ → ℕ → Bool
+bothHeld zeros ones l = isHeld zeros l and isHeld ones l

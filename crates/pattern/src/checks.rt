@@ -12,7 +12,7 @@ ghost use Rattle.model.specs.Calls.{outside, rises, sizesVerdict, entryVerdict,
 ghost use Rattle.pattern.specs.Checks.{offMatrix, capsVerdict};
 
 // A number of rows or columns outside its range.
-pub fn outside_lines(x: u64) -> bool
+fn outside_lines(x: u64) -> bool
     ensures { λ r. ⌜ r ≡ outside lineLimit x ⌝ }
 {
     x == 0 || 120 < x
@@ -48,7 +48,7 @@ pub fn and_then(first: Verdict, later: Verdict) -> Verdict
 }
 
 // Nonzero t comes after the one before it.
-pub fn is_rising(list: &[u8], t: u16) -> bool
+fn is_rising(list: &[u8], t: u16) -> bool
     ensures { λ r. ⌜ r ≡ rises (now (list .entry)) t ⌝ }
 {
     if t == 0 {
@@ -68,7 +68,7 @@ pub fn is_rising(list: &[u8], t: u16) -> bool
 }
 
 // Nonzero t lies outside the matrix.
-pub fn is_off(m: u64, n: u64, list: &[u8], t: u16) -> bool
+fn is_off(m: u64, n: u64, list: &[u8], t: u16) -> bool
     ensures { λ r. ⌜ r ≡ offMatrix m n (now (list .entry)) t ⌝ }
 {
     let row = long(row_of(list, t));
@@ -91,7 +91,7 @@ pub fn entry_verdict(m: u64, n: u64, list: &[u8], t: u16) -> Verdict
 }
 
 // The checks of the first nonzeros, in number order.
-pub fn entries_verdict(m: u64, n: u64, list: &[u8], nonzeros: u16) -> Verdict
+fn entries_verdict(m: u64, n: u64, list: &[u8], nonzeros: u16) -> Verdict
     ensures { λ r. ⌜ r ≡ entriesVerdict m n (now (list .entry)) nonzeros ⌝ }
 {
     let mut t: u16 = 0;
@@ -127,7 +127,7 @@ pub fn list_verdict(m: u64, n: u64, nonzeros: u64, list: &[u8]) -> Verdict
 }
 
 // 11, 12: cap outside its range; N above 2 × cap.
-pub fn caps_verdict(nonzeros: u64, cap: u64) -> Verdict
+fn caps_verdict(nonzeros: u64, cap: u64) -> Verdict
     ensures { λ r. ⌜ r ≡ capsVerdict nonzeros cap ⌝ }
 {
     if 2000 < cap {

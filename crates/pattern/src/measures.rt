@@ -8,7 +8,7 @@ use model::Part;
 use model::Verdict;
 use model::Word;
 ghost use mathlib.Core.Path.{_≡_};
-ghost use Rattle.pattern.specs.Checks.{eachVerdict};
+ghost use Rattle.model.specs.Refusal.{eachVerdict};
 ghost use Rattle.pattern.specs.Measures.{partVerdict, partsVerdict, measureVerdict, volumeCall, loadCall, measuredReply, volumeReplies, loadReplies};
 
 // 8: the part byte of nonzero t is above 1.
@@ -23,7 +23,7 @@ pub fn part_verdict(parts: &[u8], t: usize) -> Verdict
 }
 
 // The checks of the first part bytes, in number order.
-pub fn part_bytes_verdict(parts: &[u8], nonzeros: usize) -> Verdict
+fn part_bytes_verdict(parts: &[u8], nonzeros: usize) -> Verdict
     ensures { λ r. ⌜ r ≡ eachVerdict (partVerdict (now (parts .entry))) nonzeros ⌝ }
 {
     let mut t: usize = 0;
@@ -42,7 +42,7 @@ pub fn part_bytes_verdict(parts: &[u8], nonzeros: usize) -> Verdict
 }
 
 // The checks of parts: 9, then per nonzero 8.
-pub fn parts_verdict(nonzeros: u64, parts: &[u8]) -> Verdict
+fn parts_verdict(nonzeros: u64, parts: &[u8]) -> Verdict
     ensures { λ r. ⌜ r ≡ partsVerdict nonzeros (now (parts .entry)) ⌝ }
 {
     let needed = nonzeros as usize;
@@ -53,7 +53,7 @@ pub fn parts_verdict(nonzeros: u64, parts: &[u8]) -> Verdict
 }
 
 // The checks of a list, then those of its parts.
-pub fn measure_verdict(m: u64, n: u64, nonzeros: u64, list: &[u8], parts: &[u8]) -> Verdict
+fn measure_verdict(m: u64, n: u64, nonzeros: u64, list: &[u8], parts: &[u8]) -> Verdict
     ensures { λ r. ⌜ r ≡ measureVerdict m n nonzeros (now (list .entry)) (now (parts .entry)) ⌝ }
 {
     let listed = list_verdict(m, n, nonzeros, list);

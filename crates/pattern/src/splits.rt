@@ -4,16 +4,17 @@ use crate::reading::column_of;
 use crate::reading::row_of;
 use crate::reading::wide;
 use crate::reading::wide16;
+use crate::tests::both_of;
 use model::Part;
 ghost use mathlib.Core.Path.{_≡_};
-ghost use Rattle.counting.specs.Tests.{_and_, bit};
+ghost use Rattle.counting.specs.Tests.{bit};
 ghost use Rattle.counting.specs.Sums.{count};
 ghost use Rattle.model.specs.Pattern.{patternOf};
 ghost use Rattle.model.specs.Split.{samePart, volume};
-ghost use Rattle.pattern.specs.Splits.{splitOf, inPart, loadOf, noLines, noted, heldLines, isNoted, bothNoted};
+ghost use Rattle.pattern.specs.Splits.{splitOf, inPart, loadOf, noLines, heldWith, heldLines, isHeld, bothHeld};
 
 // The part of nonzero t.
-pub fn part_of(parts: &[u8], t: u16) -> Part
+fn part_of(parts: &[u8], t: u16) -> Part
     ensures { λ r. ⌜ r ≡ splitOf (now (parts .entry)) t ⌝ }
 {
     let at = wide16(t);
@@ -22,7 +23,7 @@ pub fn part_of(parts: &[u8], t: u16) -> Part
 }
 
 // The two parts are the same.
-pub fn same_part(p: Part, q: Part) -> bool
+fn same_part(p: Part, q: Part) -> bool
     ensures { λ r. ⌜ r ≡ samePart p q ⌝ }
 {
     match p {
@@ -38,7 +39,7 @@ pub fn same_part(p: Part, q: Part) -> bool
 }
 
 // Nonzero t is in a part.
-pub fn is_in(parts: &[u8], part: Part, t: u16) -> bool
+fn is_in(parts: &[u8], part: Part, t: u16) -> bool
     ensures { λ r. ⌜ r ≡ inPart (now (parts .entry)) part t ⌝ }
 {
     let given = part_of(parts, t);
@@ -46,14 +47,14 @@ pub fn is_in(parts: &[u8], part: Part, t: u16) -> bool
 }
 
 // What nonzero t adds to the load of a part.
-pub fn share_of(parts: &[u8], part: Part, t: u16) -> u64
+fn share_of(parts: &[u8], part: Part, t: u16) -> u64
     ensures { λ r. ⌜ r ≡ bit (inPart (now (parts .entry)) part t) ⌝ }
 {
     if is_in(parts, part, t) { 1 } else { 0 }
 }
 
 // Load: a part's number of nonzeros.
-pub fn load_of(parts: &[u8], nonzeros: u16, part: Part) -> u64
+pub(crate) fn load_of(parts: &[u8], nonzeros: u16, part: Part) -> u64
     ensures { λ r. ⌜ r ≡ loadOf (now (parts .entry)) nonzeros part ⌝ }
 {
     let mut load: u64 = 0;
@@ -65,9 +66,9 @@ pub fn load_of(parts: &[u8], nonzeros: u16, part: Part) -> u64
     load
 }
 
-// Both lines of nonzero t noted, where it is in the part.
-pub fn note_lines(m: u8, list: &[u8], parts: &[u8], part: Part, t: u16, held: &mut [u8; 512])
-    ensures { λ _. ⌜ now (held .exit) ≡ noted m (now (list .entry)) (now (parts .entry)) part t (now (held .entry)) ⌝ }
+// Both lines of nonzero t held, where it is in the part.
+fn hold_lines(m: u8, list: &[u8], parts: &[u8], part: Part, t: u16, held: &mut [u8; 512])
+    ensures { λ _. ⌜ now (held .exit) ≡ heldWith m (now (list .entry)) (now (parts .entry)) part t (now (held .entry)) ⌝ }
 {
     if is_in(parts, part, t) {
         let row = wide(row_of(list, t));
@@ -77,7 +78,7 @@ pub fn note_lines(m: u8, list: &[u8], parts: &[u8], part: Part, t: u16, held: &m
     }
 }
 
-// No line noted.
+// No line held.
 pub fn no_lines() -> [u8; 512]
     ensures { λ r. ⌜ r ≡ noLines ⌝ }
 {
@@ -85,45 +86,38 @@ pub fn no_lines() -> [u8; 512]
 }
 
 // The lines that hold a part, each with 1 at its number.
-pub fn held_lines(m: u8, nonzeros: u16, list: &[u8], parts: &[u8], part: Part) -> [u8; 512]
+fn held_lines(m: u8, nonzeros: u16, list: &[u8], parts: &[u8], part: Part) -> [u8; 512]
     ensures { λ r. ⌜ r ≡ heldLines m (now (list .entry)) (now (parts .entry)) part nonzeros ⌝ }
 {
     let mut held = no_lines();
     let mut t: u16 = 0;
     while t < nonzeros {
-        note_lines(m, list, parts, part, t, &mut held);
+        hold_lines(m, list, parts, part, t, &mut held);
         t += 1;
     }
     held
 }
 
-// Line l is noted.
-pub fn is_noted(held: &[u8], l: u16) -> bool
-    ensures { λ r. ⌜ r ≡ isNoted (now (held .entry)) l ⌝ }
+// Line l is held.
+fn is_held(held: &[u8], l: u16) -> bool
+    ensures { λ r. ⌜ r ≡ isHeld (now (held .entry)) l ⌝ }
 {
     let at = wide16(l);
     byte_at(held, at) == 1
 }
 
-// Both tests pass.
-pub fn both(first: bool, second: bool) -> bool
-    ensures { λ r. ⌜ r ≡ (first and second) ⌝ }
+// What line l adds to the number of lines held in both lists.
+fn cut_of(zeros: &[u8], ones: &[u8], l: u16) -> u64
+    ensures { λ r. ⌜ r ≡ bit (bothHeld (now (zeros .entry)) (now (ones .entry)) l) ⌝ }
 {
-    if first { second } else { false }
+    let zero = is_held(zeros, l);
+    let one = is_held(ones, l);
+    if both_of(zero, one) { 1 } else { 0 }
 }
 
-// What line l adds to the number of lines noted in both lists.
-pub fn cut_of(zeros: &[u8], ones: &[u8], l: u16) -> u64
-    ensures { λ r. ⌜ r ≡ bit (bothNoted (now (zeros .entry)) (now (ones .entry)) l) ⌝ }
-{
-    let zero = is_noted(zeros, l);
-    let one = is_noted(ones, l);
-    if both(zero, one) { 1 } else { 0 }
-}
-
-// The number of lines noted in both lists.
-pub fn cuts_of(zeros: &[u8], ones: &[u8], lines: u16) -> u64
-    ensures { λ r. ⌜ r ≡ count (bothNoted (now (zeros .entry)) (now (ones .entry))) lines ⌝ }
+// The number of lines held in both lists.
+fn cuts_of(zeros: &[u8], ones: &[u8], lines: u16) -> u64
+    ensures { λ r. ⌜ r ≡ count (bothHeld (now (zeros .entry)) (now (ones .entry))) lines ⌝ }
 {
     let mut cuts: u64 = 0;
     let mut l: u16 = 0;

@@ -1,27 +1,22 @@
 -- What an accepted split gives: sizes in their ranges, nonzeros inside and in order, parts 0 or 1.
 -- Assumes nothing.
-use mathlib.Core.Bool.{true, false, not}
+use mathlib.Core.Bool.{true, false}
 use mathlib.Core.List.{List}
-use mathlib.Core.Path.{_≡_, _∙_, ap}
+use mathlib.Core.Path.{_≡_}
 use mathlib.Core.Logic.{⊎-elim}
-use Prim.Native.Nat.{ℕ, zero, suc, _+_, _*_, _≤_, _<_}
-use native.Mathlib.Nat.{eq-or-lt-of-le, le-of-suc-le-suc}
+use Prim.Native.Nat.{ℕ, suc, _+_, _*_, _≤_, _<_}
 use native.Mathlib.Omega.{arith}
-use lib.Dec.{ltb, leb, eqb}
+use lib.Dec.{ltb, eqb}
 use lib.ListN.{length, getD}
-use borrow.Author.Tests.{ltb-true, ltb-false, leb-false, eqb-true, not-false}
+use borrow.Author.Tests.{ltb-true, ltb-false, eqb-true}
 use Rattle.counting.specs.Tests.{_and_, _or_}
-use Rattle.counting.proofs.Joined.{no-way, and-left, and-right, or-cases, or-fails-left, or-fails-right}
-use Rattle.model.specs.declared.Word.the-variants.{OffMatrix, BadPart, ShortBuffer, Order}
-use Rattle.model.specs.declared.Verdict.{Verdict}
+use Rattle.counting.proofs.Joined.{and-left, and-right, or-cases, or-fails-left, or-fails-right}
+use Rattle.model.specs.declared.Word.the-variants.{BadPart, ShortBuffer}
 use Rattle.model.specs.declared.Verdict.the-variants.{Accepted}
-use Rattle.model.specs.Refusal.{refuse}
 use Rattle.model.specs.Pattern.{rowIn, columnIn}
 use Rattle.model.specs.Calls.{sizesVerdict, rises, entryVerdict}
-use Rattle.pattern.specs.Checks.{eachVerdict}
 use Rattle.pattern.specs.Measures.{partVerdict}
-use Rattle.pattern.proofs.Verdicts.{then-first, rows-small, columns-small, nonzeros-small}
-use Rattle.model.proofs.Theorems.Accepted.{then-second, refuse-not}
+use Rattle.model.proofs.Theorems.Checks.{then-first, rows-range, columns-range, nonzeros-small, then-second, refuse-not, each-accepted, entry-row, entry-column, entry-rises}
 use Rattle.writing.specs.Writing.{nonzeroVerdict, writeVerdict}
 use Rattle.readback.proofs.Rising.{Rising}
 
@@ -41,16 +36,6 @@ pub record Fine (m n nonzeros : ℕ) (list parts : List ℕ) : Type 0 where
   pub column-in : (t : ℕ) → t < nonzeros → columnIn list t < n
   pub part-in : (t : ℕ) → t < nonzeros → getD parts t 0 ≤ 1
   pub in-order : Rising (cellIn list) nonzeros
-
--- checks of numbers that refuse nothing refuse nothing of each
-pub each-accepted : (check : ℕ → Verdict) (n t : ℕ) → eachVerdict check n ≡ Accepted → t < n → check t ≡ Accepted
-unfolding eachVerdict
-each-accepted check zero t h l = no-way (omega arith)
-each-accepted check (suc n) t h l =
-    ⊎-elim
-    (λ e. ap check e ∙ then-second (eachVerdict check n) (check n) h)
-    (λ k. each-accepted check n t (then-first (eachVerdict check n) (check n) h) k)
-    (eq-or-lt-of-le (le-of-suc-le-suc l))
 
 -- a nonzero that comes after another has a later cell
 later-cell :
@@ -81,38 +66,25 @@ module _ (m n nonzeros : ℕ) (list parts : List ℕ) (accepted : writeVerdict m
   unfolding nonzeroVerdict
   entry-accepted t l = then-first (entryVerdict m n list t) (partVerdict parts t) (each t l)
 
-  inside : (t : ℕ) → t < nonzeros → leb m (rowIn list t) or leb n (columnIn list t) ≡ false
-  unfolding entryVerdict
-  inside t l =
-      refuse-not _ OffMatrix t (then-first (refuse (leb m (rowIn list t) or leb n (columnIn list t)) OffMatrix t) _ (entry-accepted t l))
-
-  ordered : (t : ℕ) → t < nonzeros → rises list t ≡ true
-  unfolding entryVerdict
-  ordered t l =
-      not-false (rises list t) (refuse-not (not (rises list t)) Order t (then-second (refuse (leb m (rowIn list t) or leb n (columnIn list t)) OffMatrix t) _ (entry-accepted t l)))
-
   part-fails : (t : ℕ) → t < nonzeros → ltb 1 (getD parts t 0) ≡ false
   unfolding nonzeroVerdict partVerdict
   part-fails t l = refuse-not (ltb 1 (getD parts t 0)) BadPart t (then-second (entryVerdict m n list t) _ (each t l))
-
-  column-inside : (t : ℕ) → t < nonzeros → columnIn list t < n
-  column-inside t l = leb-false n (columnIn list t) (or-fails-right (leb m (rowIn list t)) (leb n (columnIn list t)) (inside t l))
 
   pub fine-split : Fine m n nonzeros list parts
   fine-split =
       record {
         sizes = sizes-fine;
-        rows = rows-small m n nonzeros sizes-fine;
-        columns = columns-small m n nonzeros sizes-fine;
+        rows = rows-range m n nonzeros sizes-fine .1;
+        columns = columns-range m n nonzeros sizes-fine .1;
         few = nonzeros-small m n nonzeros sizes-fine;
         list-room = ltb-false (length list) (2 * nonzeros) (or-fails-left _ (ltb (length parts) nonzeros) rooms);
         parts-room = ltb-false (length parts) nonzeros (or-fails-right (ltb (length list) (2 * nonzeros)) _ rooms);
-        row-in = λ t l. leb-false m (rowIn list t) (or-fails-left (leb m (rowIn list t)) (leb n (columnIn list t)) (inside t l));
-        column-in = column-inside;
+        row-in = λ t l. entry-row m n list t (entry-accepted t l);
+        column-in = λ t l. entry-column m n list t (entry-accepted t l);
         part-in = λ t l. ltb-false 1 (getD parts t 0) (part-fails t l);
         in-order =
             record {
               next =
-                  λ t l. later-cell list n t (columns-small m n nonzeros sizes-fine) (column-inside t (omega arith)) (ordered (suc t) l);
+                  λ t l. later-cell list n t (columns-range m n nonzeros sizes-fine .1) (entry-column m n list t (entry-accepted t (omega arith))) (entry-rises m n list (suc t) (entry-accepted (suc t) l));
             };
       }

@@ -14,7 +14,7 @@ use Rattle.counting.proofs.Joined.{by-test}
 use Rattle.counting.proofs.Summed.{sum-none}
 use Rattle.model.specs.declared.Word.the-variants.{Count}
 use Rattle.model.specs.declared.Verdict.the-variants.{Accepted}
-use Rattle.model.proofs.Theorems.Accepted.{refuse-not}
+use Rattle.model.proofs.Theorems.Checks.{refuse-not}
 use Rattle.scanning.specs.Lines.{emptyLine}
 use Rattle.scanning.proofs.Scans.{next-after}
 use Rattle.texts.specs.declared.Header.{Header}
@@ -22,7 +22,7 @@ use Rattle.texts.specs.Header.{headerOf}
 use Rattle.texts.specs.Entries.{noCells, lineVerdict, noted, endVerdict, Entries, entriesFrom}
 use Rattle.texts.proofs.Cells.{ended, later, one-line, entries-end, entries-none, entries-one}
 use Rattle.readback.specs.TextSays.{lineBelow, isEntry}
-use Rattle.readback.proofs.Passed.{count-passed, count-failed}
+use Rattle.counting.proofs.Passed.{count-passed, count-failed}
 use Rattle.readback.proofs.Entered.{Entered, entered-none}
 use Rattle.readback.proofs.Taken.{goes-on, line-entered}
 use Rattle.readback.proofs.LinesBelow.{line-more, entry-so, entry-not}

@@ -15,19 +15,18 @@ use Rattle.model.specs.declared.Verdict.{Verdict}
 use Rattle.model.specs.declared.Verdict.the-variants.{Accepted, Refused}
 use Rattle.model.specs.Calls.{sizesVerdict, listVerdict}
 use Rattle.pattern.specs.Measures.{partsVerdict}
-use Rattle.pattern.proofs.Verdicts.{refuse-false, then-accepted, then-first, rows-small, columns-small}
+use Rattle.model.proofs.Theorems.Checks.{refuse-no, then-accepted, then-first, rows-range, columns-range, then-second, refuse-not, each-fine}
 use Rattle.texts.specs.declared.Header.{Header}
 use Rattle.texts.specs.declared.ReadAnswer.the-variants as read-answer
 use Rattle.texts.specs.Header.{headerOf, short, headVerdict}
 use Rattle.texts.specs.Entries.{noCells, entriesFrom}
-use Rattle.texts.specs.Reading.{listed, parted, entriesBelow, answerAfter, textVerdict, readVerdict, readCall, readList, readParts}
-use Rattle.model.proofs.Theorems.Accepted.{then-second, refuse-not}
+use Rattle.texts.specs.Reading.{listed, parted, entriesBelow, answerRead, textVerdict, readVerdict, readCall, readList, readParts}
 use Rattle.texts.proofs.Answers.{head-sizes, parts-integer, below-list, below-parts, read-list-is, read-parts-is}
 use Rattle.writing.specs.Writing.{nonzeroVerdict, writeVerdict}
 use Rattle.readback.proofs.Given.{GivesList, GivesParts, listed-length, parted-length, gives-listed, gives-parted}
 use Rattle.readback.proofs.Entered.{Entered, entered-none}
 use Rattle.readback.proofs.Taken.{entries-entered}
-use Rattle.readback.proofs.InOrder.{each-fine, entry-accepted, part-accepted, list-fine, parts-fine}
+use Rattle.readback.proofs.InOrder.{entry-accepted, part-accepted, list-fine, parts-fine}
 
 module _ (text list parts : List ℕ) (accepted : readVerdict text list parts ≡ Accepted) where
   abbrev h : Header
@@ -67,8 +66,8 @@ module _ (text list parts : List ℕ) (accepted : readVerdict text list parts �
       entries-entered
       text
       h
-      (rows-small (h .m) (h .n) (h .nonzeros) sizes)
-      (columns-small (h .m) (h .n) (h .nonzeros) sizes)
+      (rows-range (h .m) (h .n) (h .nonzeros) sizes .1)
+      (columns-range (h .m) (h .n) (h .nonzeros) sizes .1)
       (length text)
       (h .next)
       0
@@ -113,7 +112,7 @@ module _ (text list parts : List ℕ) (accepted : readVerdict text list parts �
       then-accepted _ sizes
       ∙ then-accepted
       _
-      (refuse-false
+      (refuse-no
       ShortBuffer
       0
       (or-fails
@@ -133,9 +132,9 @@ pub record Answered (v : Verdict) (h : Header) (m n nonzeros : ℕ) (integer : B
   pub integer-is : h .integer ≡ integer
 
 pub answered :
-    (v : Verdict) (h : Header) (m n nonzeros : ℕ) (integer : Bool) → answerAfter v h ≡ read-answer.Read m n nonzeros integer →
+    (v : Verdict) (h : Header) (m n nonzeros : ℕ) (integer : Bool) → answerRead v h ≡ read-answer.Read m n nonzeros integer →
     Answered v h m n nonzeros integer
-unfolding answerAfter
+unfolding answerRead
 answered Accepted h m n nonzeros integer e =
     record { accepted = refl; m-is = cc; n-is = cc; nonzeros-are = cc; integer-is = cc }
 answered (Refused word place) h m n nonzeros integer e = never (cc)

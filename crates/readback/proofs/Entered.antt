@@ -13,7 +13,7 @@ use Rattle.counting.specs.Sums.{count}
 use Rattle.counting.proofs.Joined.{by-test, clash}
 use Rattle.counting.proofs.Counted.{count-none}
 use Rattle.texts.specs.Entries.{noCells, isGiven}
-use Rattle.readback.proofs.Passed.{count-added}
+use Rattle.counting.proofs.Passed.{count-added}
 use Rattle.readback.proofs.Table.{none-length, none-there, given-mark, not-given, cell-row, cell-column}
 
 -- so many cells of an m by n matrix are given, each with mark 1 or 2

@@ -3,7 +3,7 @@
 use mathlib.Core.Bool.{true, false}
 use mathlib.Core.List.{List}
 use mathlib.Core.Path.{_≡_, refl, sym, _∙_, ap}
-use Prim.Native.Nat.{ℕ, zero, suc, _+_, _*_, _^_, _≤_, _<_}
+use Prim.Native.Nat.{ℕ, zero, suc, _+_, _^_, _≤_, _<_}
 use native.Mathlib.Numerals.{add-one}
 use native.Mathlib.Omega.{arith}
 use lib.ListN.{length, getD, set}
@@ -13,7 +13,7 @@ use Rattle.model.specs.declared.Word.the-variants.{EntryForm, OffMatrix, Repeat
 use Rattle.model.specs.declared.Verdict.the-variants.{Accepted}
 use Rattle.model.specs.Pattern.{rowIn, columnIn}
 use Rattle.model.specs.Calls.{outside}
-use Rattle.pattern.proofs.Verdicts.{refuse-false, then-accepted}
+use Rattle.model.proofs.Theorems.Checks.{refuse-no, then-accepted}
 use Rattle.scanning.specs.declared.Numbers.{Numbers}
 use Rattle.scanning.specs.Lines.{lineNext, emptyLine}
 use Rattle.texts.specs.declared.Header.{Header}
@@ -117,16 +117,16 @@ module _
         _
         (then-accepted
         _
-        (then-accepted _ (refuse-false EntryForm (here t) refl)
-        ∙ refuse-false OffMatrix (here t) (or-fails (inside-range m (rowIn list t) (split .row-in t l)) (inside-range n (columnIn list t) (split .column-in t l))))
-        ∙ refuse-false BadPart (here t) (inside-range 2 (getD parts t 0) (omega (arith, split .part-in t l))))
-        ∙ refuse-false Repeated (here t) fresh
+        (then-accepted _ (refuse-no EntryForm (here t) refl)
+        ∙ refuse-no OffMatrix (here t) (or-fails (inside-range m (rowIn list t) (split .row-in t l)) (inside-range n (columnIn list t) (split .column-in t l))))
+        ∙ refuse-no BadPart (here t) (inside-range 2 (getD parts t 0) (omega (arith, split .part-in t l))))
+        ∙ refuse-no Repeated (here t) fresh
 
     verdict : lineVerdict text h (here t) t (table t) ≡ Accepted
     unfolding lineVerdict
     verdict =
         pick-false Accepted _ filled
-        ∙ then-accepted _ (refuse-false Count (here t) (lt-leb nonzeros t l))
+        ∙ then-accepted _ (refuse-no Count (here t) (lt-leb nonzeros t l))
         ∙ ap (λ e. entryCheck h e (here t) (table t)) entry-back
         ∙ check
 
@@ -165,4 +165,4 @@ module _
   entries-back =
       sym (walked nonzeros (omega arith) ∙ first-line)
       ∙ entries-end text h (length text) (here nonzeros) nonzeros (table nonzeros) (omega arith)
-      ∙ ap (λ v. record { verdict = v; cells = table nonzeros }) (refuse-false Count (length text) (le-ltb nonzeros nonzeros (omega arith)))
+      ∙ ap (λ v. record { verdict = v; cells = table nonzeros }) (refuse-no Count (length text) (le-ltb nonzeros nonzeros (omega arith)))

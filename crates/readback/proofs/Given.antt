@@ -15,7 +15,7 @@ use Rattle.counting.specs.Sums.{count}
 use Rattle.counting.proofs.Joined.{no-way, by-test, clash, pick-true, pick-false}
 use Rattle.texts.specs.Entries.{isGiven}
 use Rattle.texts.specs.Reading.{listCell, partCell, listed, parted}
-use Rattle.readback.proofs.Passed.{count-passed, count-failed, count-later, passed}
+use Rattle.counting.proofs.Passed.{count-passed, count-failed, count-later, passed}
 
 -- the first `top` cells give the nonzeros of a list, in its order
 pub record GivesList (cells : List ℕ) (top : ℕ) (list : List ℕ) : Type 0 where

@@ -12,23 +12,17 @@ use borrow.Author.Tests.{ltb-true, ltb-false, lt-ltb, le-ltb, lt-leb, eq-eqb}
 use Rattle.counting.specs.Sums.{count}
 use Rattle.counting.proofs.Joined.{no-way, by-test, and-intro, or-left, or-right, or-fails}
 use Rattle.model.specs.declared.Word.the-variants.{BadPart, ShortBuffer}
-use Rattle.model.specs.declared.Verdict.{Verdict}
 use Rattle.model.specs.declared.Verdict.the-variants.{Accepted}
 use Rattle.model.specs.Pattern.{rowIn, columnIn}
 use Rattle.model.specs.Calls.{sizesVerdict, rises, entryVerdict, listVerdict}
-use Rattle.pattern.specs.Checks.{offMatrix, eachVerdict}
+use Rattle.pattern.specs.Checks.{offMatrix}
 use Rattle.pattern.specs.Measures.{partVerdict, partsVerdict}
-use Rattle.pattern.proofs.Verdicts.{refuse-false, then-accepted, entry-fine, entries-each, list-entries}
+use Rattle.model.proofs.Theorems.Checks.{refuse-no, then-accepted, each-fine}
+use Rattle.pattern.proofs.Verdicts.{entry-fine, list-entries}
 use Rattle.texts.specs.Entries.{isGiven}
-use Rattle.readback.proofs.Passed.{count-rise, passed}
+use Rattle.counting.proofs.Passed.{count-rise, passed}
 use Rattle.readback.proofs.Given.{GivesList, GivesParts}
 use Rattle.readback.proofs.Entered.{Entered}
-
--- checks that refuse nothing of each number refuse nothing
-pub each-fine : (check : ℕ → Verdict) (n : ℕ) → ((t : ℕ) → t < n → check t ≡ Accepted) → eachVerdict check n ≡ Accepted
-unfolding eachVerdict
-each-fine check zero h = refl
-each-fine check (suc n) h = then-accepted (check n) (each-fine check n (λ t l. h t (omega arith))) ∙ h n (omega arith)
 
 module _ {m n nonzeros : ℕ} {cells : List ℕ} (e : Entered m n cells nonzeros) where
   -- the cell of nonzero t
@@ -98,7 +92,6 @@ module _ {m n nonzeros : ℕ} {cells : List ℕ} (e : Entered m n cells nonzeros
     pub list-fine : sizesVerdict m n nonzeros ≡ Accepted → 2 * nonzeros ≤ length list → listVerdict m n nonzeros list ≡ Accepted
     list-fine sizes room =
         list-entries m n nonzeros list sizes room
-        ∙ entries-each m n list nonzeros
         ∙ each-fine (entryVerdict m n list) nonzeros entry-accepted
 
   module _ {parts : List ℕ} (g : GivesParts cells (120 * m) parts) where
@@ -106,7 +99,7 @@ module _ {m n nonzeros : ℕ} {cells : List ℕ} (e : Entered m n cells nonzeros
     unfolding partVerdict
     part-accepted t l =
         let a = cell-of t l in
-        refuse-false
+        refuse-no
         BadPart
         t
         (le-ltb 1 (getD parts t 0) (omega (arith, ap (λ k. getD parts k 0) (a .3), g .part (a .0) (a .1) (a .2), e .mark-in (a .0))))
@@ -114,4 +107,4 @@ module _ {m n nonzeros : ℕ} {cells : List ℕ} (e : Entered m n cells nonzeros
     pub parts-fine : nonzeros ≤ length parts → partsVerdict nonzeros parts ≡ Accepted
     unfolding partsVerdict
     parts-fine room =
-        then-accepted _ (refuse-false ShortBuffer 0 (le-ltb (length parts) nonzeros room)) ∙ each-fine (partVerdict parts) nonzeros part-accepted
+        then-accepted _ (refuse-no ShortBuffer 0 (le-ltb (length parts) nonzeros room)) ∙ each-fine (partVerdict parts) nonzeros part-accepted

@@ -1,4 +1,3 @@
-pub mod Passed
 pub mod Rising
 pub mod Table
 pub mod Given

@@ -12,16 +12,16 @@ use lib.ListN.{length}
 use borrow.Author.Tests.{ltb-true, ltb-false, lt-ltb}
 use Rattle.counting.specs.Sums.{count}
 use Rattle.counting.proofs.Joined.{by-test, fails, and-left, and-intro, and-fails-right}
-use Rattle.scanning.specs.declared.Run.the-variants.{Line}
+use Rattle.scanning.specs.declared.Stretch.the-variants.{Line}
 use Rattle.scanning.specs.Lines.{lineStop, lineNext, emptyLine}
-use Rattle.scanning.proofs.Scans.{run-over, next-after, next-none}
+use Rattle.scanning.proofs.Scans.{stretch-over, next-after, next-none}
 use Rattle.readback.specs.TextSays.{lineBelow, isEntry}
-use Rattle.readback.proofs.Passed.{count-flat}
+use Rattle.counting.proofs.Passed.{count-flat}
 
 module _ (text : List ℕ) where
   stop-over : (at : ℕ) → length text ≤ at → lineStop text at ≡ at
   unfolding lineStop
-  stop-over at l = run-over Line text at (length text) l
+  stop-over at l = stretch-over Line text at (length text) l
 
   next-rise : (at : ℕ) → at ≤ lineNext text at
   next-rise at =

@@ -15,8 +15,7 @@ use Rattle.counting.proofs.Joined.{no-way, by-test, clash, or-fails-left, or-fa
 use Rattle.model.specs.declared.Word.the-variants.{EntryForm, OffMatrix, Repeated, BadPart}
 use Rattle.model.specs.declared.Verdict.the-variants.{Accepted}
 use Rattle.model.specs.Calls.{outside}
-use Rattle.model.proofs.Theorems.Accepted.{then-second, refuse-not}
-use Rattle.pattern.proofs.Verdicts.{then-first}
+use Rattle.model.proofs.Theorems.Checks.{then-second, refuse-not, then-first, in-range}
 use Rattle.scanning.specs.declared.Numbers.{Numbers}
 use Rattle.scanning.specs.Lines.{emptyLine}
 use Rattle.texts.specs.declared.Header.{Header}
@@ -25,7 +24,7 @@ use Rattle.texts.specs.Entries.{cellOf, noCells, isGiven, cellMark, entryCheck,
 use Rattle.readback.specs.TextSays.{lineBelow, isEntry, entryBelow, InForm}
 use Rattle.readback.proofs.LinesBelow.{entry-so, entry-not}
 use Rattle.readback.proofs.Table.{none-there, given-mark, not-given}
-use Rattle.readback.proofs.Taken.{in-range, mark-range}
+use Rattle.readback.proofs.Taken.{mark-range}
 
 -- the cell of line k below the size line
 abbrev pub cellBelow : List ℕ → ℕ → ℕ

@@ -11,7 +11,7 @@ use Rattle.counting.proofs.Joined.{or-fails, and-fails-right}
 use Rattle.model.specs.declared.Word.the-variants.{Banner, SizeLine, TooBig, ShortBuffer}
 use Rattle.model.specs.declared.Verdict.the-variants.{Accepted}
 use Rattle.model.specs.Calls.{sizesVerdict}
-use Rattle.pattern.proofs.Verdicts.{refuse-false, then-accepted}
+use Rattle.model.proofs.Theorems.Checks.{refuse-no, then-accepted}
 use Rattle.scanning.specs.Checks.{moved}
 use Rattle.texts.specs.declared.Header.{Header}
 use Rattle.texts.specs.declared.ReadAnswer.the-variants as read-answer
@@ -79,10 +79,10 @@ module _
       _
       (then-accepted
       _
-      (then-accepted _ (refuse-false TooBig 0 (le-ltb textLimit (length text) limit)) ∙ refuse-false Banner 0 refl)
-      ∙ refuse-false SizeLine (sizeAt f) refl)
+      (then-accepted _ (refuse-no TooBig 0 (le-ltb textLimit (length text) limit)) ∙ refuse-no Banner 0 refl)
+      ∙ refuse-no SizeLine (sizeAt f) refl)
       ∙ sizes-moved)
-      ∙ refuse-false ShortBuffer 0 room
+      ∙ refuse-no ShortBuffer 0 room
 
   held-entries : Holds text start (entriesText list parts nonzeros)
   held-entries =

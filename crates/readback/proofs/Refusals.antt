@@ -10,13 +10,13 @@ use Rattle.model.specs.declared.Verdict.the-variants.{Accepted, Refused}
 use Rattle.texts.specs.declared.Header.{Header}
 use Rattle.texts.specs.declared.ReadAnswer.the-variants as read-answer
 use Rattle.texts.specs.Header.{headerOf}
-use Rattle.texts.specs.Reading.{answerAfter, outputAfter, readVerdict, readCall, readList, readParts}
+use Rattle.texts.specs.Reading.{answerRead, outputAfter, readVerdict, readCall, readList, readParts}
 
 -- an answer that is a refusal comes of a verdict that is one
 kept-by :
-    (v : Verdict) (h : Header) (new old : List ℕ) (word : Word) (place : ℕ) → answerAfter v h ≡ read-answer.Refused word place →
+    (v : Verdict) (h : Header) (new old : List ℕ) (word : Word) (place : ℕ) → answerRead v h ≡ read-answer.Refused word place →
     outputAfter v new old ≡ old
-unfolding answerAfter outputAfter
+unfolding answerRead outputAfter
 kept-by Accepted h new old word place e = never (cc)
 kept-by (Refused w p) h new old word place e = refl
 

@@ -11,7 +11,7 @@ use borrow.Author.Tests.{ltb-true, ltb-false}
 use Rattle.counting.specs.Sums.{count}
 use Rattle.counting.proofs.Joined.{no-way, by-test, fails}
 use Rattle.counting.proofs.Counted.{count-none}
-use Rattle.readback.proofs.Passed.{count-passed, count-flat}
+use Rattle.counting.proofs.Passed.{count-passed, count-flat}
 
 -- the first `top` numbers rise strictly
 pub record Rising (c : ℕ → ℕ) (top : ℕ) : Type 0 where

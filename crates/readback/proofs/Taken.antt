@@ -1,36 +1,28 @@
 -- A text whose entries are accepted fills the table with as many entries as its size line says, all inside the matrix.
 -- Assumes nothing.
-use mathlib.Core.Bool.{false, not}
+use mathlib.Core.Bool.{not}
 use mathlib.Core.List.{List}
 use mathlib.Core.Path.{_≡_, refl, sym, _∙_, ap}
 use Prim.Native.Nat.{ℕ, zero, suc, _+_, _-_, _≤_}
 use native.Mathlib.Omega.{arith}
 use lib.Dec.{eqb, ltb, leb}
 use lib.ListN.{length, set}
-use borrow.Author.Tests.{ltb-true, ltb-false, leb-false, eqb-false}
+use borrow.Author.Tests.{ltb-true, ltb-false, leb-false}
 use Rattle.counting.specs.Tests.{bit}
 use Rattle.counting.proofs.Joined.{by-test, or-fails-left, or-fails-right, pick-true, pick-false, never}
 use Rattle.model.specs.declared.Word.the-variants.{OffMatrix, Repeated, Count}
 use Rattle.model.specs.declared.Verdict.{Verdict}
 use Rattle.model.specs.declared.Verdict.the-variants.{Accepted, Refused}
 use Rattle.model.specs.Calls.{outside}
-use Rattle.pattern.proofs.Verdicts.{then-first}
+use Rattle.model.proofs.Theorems.Checks.{then-first, then-second, refuse-not, in-range}
 use Rattle.scanning.specs.declared.Numbers.{Numbers}
 use Rattle.scanning.specs.Lines.{lineNext, emptyLine}
 use Rattle.texts.specs.declared.Header.{Header}
 use Rattle.texts.specs.Entries.{entryAt, cellOf, cellMark, entryCheck, lineVerdict, noted, endVerdict, Entries, after, entriesFrom}
 use Rattle.texts.proofs.Cells.{ended, later, one-line, entries-end, entries-none, entries-one}
-use Rattle.model.proofs.Theorems.Accepted.{then-second, refuse-not}
 use Rattle.readback.proofs.Entered.{Entered, entered-more}
 
--- a number in its range
-pub in-range : (limit x : ℕ) → outside limit x ≡ false → (1 ≤ x) × (x ≤ limit)
-unfolding outside
-in-range limit x h =
-    let some = eqb-false x 0 (or-fails-left (eqb x 0) (ltb limit x) h) in
-    let few = ltb-false limit x (or-fails-right (eqb x 0) (ltb limit x) h) in
-    (omega arith, few)
-
+-- the mark that a part leaves in a cell
 pub mark-range : (p : ℕ) → (1 ≤ cellMark p) × (cellMark p ≤ 2)
 unfolding cellMark
 mark-range p =

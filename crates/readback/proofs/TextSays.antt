@@ -12,14 +12,14 @@ use borrow.Author.Tests.{eqb-true, eqb-false, ltb-true, ltb-false}
 use Rattle.counting.specs.Sums.{count}
 use Rattle.counting.proofs.Joined.{by-test}
 use Rattle.model.specs.Pattern.{rowIn, columnIn}
-use Rattle.pattern.proofs.Verdicts.{rows-small, columns-small}
+use Rattle.model.proofs.Theorems.Checks.{rows-range, columns-range}
 use Rattle.texts.specs.declared.Header.{Header}
 use Rattle.texts.specs.declared.ReadAnswer.the-variants as read-answer
 use Rattle.texts.specs.Header.{headerOf}
 use Rattle.texts.specs.Entries.{cellOf, isGiven}
 use Rattle.texts.specs.Reading.{readVerdict, readCall, readList, readParts}
 use Rattle.readback.specs.TextSays.{isEntry, entryBelow, InForm, LineGives, TextGives, InList, TextSays}
-use Rattle.readback.proofs.Passed.{count-later}
+use Rattle.counting.proofs.Passed.{count-later}
 use Rattle.readback.proofs.Table.{cell-row, cell-column, cell-is, mark-is}
 use Rattle.readback.proofs.Given.{GivesList, GivesParts}
 use Rattle.readback.proofs.Entered.{Entered}
@@ -141,8 +141,8 @@ text-says text list parts m n nonzeros integer e =
     let a = answered (readVerdict text list parts) (headerOf text) m n nonzeros integer e in
     let s = sizes text list parts (a .accepted) in
     let h = headerOf text in
-    let columns = columns-small (h .m) (h .n) (h .nonzeros) s in
-    let all = all-noted text (rows-small (h .m) (h .n) (h .nonzeros) s) columns (below-fine text list parts (a .accepted)) in
+    let columns = columns-range (h .m) (h .n) (h .nonzeros) s .1 in
+    let all = all-noted text (rows-range (h .m) (h .n) (h .nonzeros) s .1) columns (below-fine text list parts (a .accepted)) in
     let table = entered text list parts (a .accepted) in
     let gives = gives-list text list parts (a .accepted) in
     rw

@@ -15,21 +15,21 @@ use Rattle.model.specs.declared.Verdict.the-variants.{Accepted, Refused}
 use Rattle.writing.specs.declared.Figures.{Figures}
 use Rattle.writing.specs.declared.WriteAnswer.the-variants as write-answer
 use Rattle.writing.specs.Written.{textOf}
-use Rattle.writing.specs.Writing.{writeVerdict, lengthAnswer, textOut, answerAfter, outAfter, writeCall, writeOut}
+use Rattle.writing.specs.Writing.{writeVerdict, lengthAnswer, textOut, answerWritten, outWritten, writeCall, writeOut}
 use Rattle.readback.specs.Reads.{ReadsAs}
 use Rattle.readback.proofs.ReadsBack.{reads-back}
 
 -- the verdict of a writing that answers a length, and what it leaves
 record Wrote (v : Verdict) (text out : List ℕ) (len : ℕ) : Type 0 where
   accepted : v ≡ Accepted
-  left : take len (outAfter v text out) ≡ text
+  left : take len (outWritten v text out) ≡ text
 
 -- a text put at the start of an output with room for it
 put-first : (text out : List ℕ) → length text ≤ length out → take (length text) (sets out 0 text) ≡ text
 put-first text out l = rw (sets-eq text out 0 (omega arith)) (take-append-seam text (drop (0 + length text) out))
 
-wrote : (v : Verdict) (text out : List ℕ) (len : ℕ) → answerAfter v text out ≡ write-answer.Written len → Wrote v text out len
-unfolding answerAfter outAfter lengthAnswer textOut
+wrote : (v : Verdict) (text out : List ℕ) (len : ℕ) → answerWritten v text out ≡ write-answer.Written len → Wrote v text out len
+unfolding answerWritten outWritten lengthAnswer textOut
 wrote (Refused word place) text out len e = never (cc)
 wrote Accepted text out len e =
     by-test

@@ -7,8 +7,8 @@ use Prim.Native.Nat.{ℕ}
 use lib.ListN.{length}
 use Rattle.counting.specs.Tests.{_and_, _or_, pick, bit}
 use Rattle.counting.specs.Sums.{sum, count}
-use Rattle.scanning.specs.Classes.{between, classOf, lowered, cased, digitOf}
-use Rattle.scanning.specs.Lines.{past, runsAt, runEnd, lineStop, hasReturn, lineEnd, lineNext, emptyLine, isComment, skipped, sizeLineAt}
+use Rattle.scanning.specs.Classes.{between, classOf, smallLetter, cased, digitOf}
+use Rattle.scanning.specs.Lines.{past, stretchesAt, stretchEnd, lineStop, hasReturn, lineEnd, lineNext, emptyLine, isComment, skipped, sizeLineAt}
 use Rattle.scanning.specs.Words.{wordAt, spells, sameWord, isNumber, valueOf, numberValue, numberAt, endsAt, threeAt, twoAt, numbersAt}
 use Rattle.texts.specs.Header.{#banner, #matrix, #coordinate, #pattern, #general, bannerAt, headerOf}
 use Rattle.texts.specs.Entries.{entryAt}
@@ -22,7 +22,7 @@ worked =
 
 -- to unfold this is to unfold every definition that a sample computes with
 computing : Type 0
-unfolding lineBelow headerOf bannerAt numbersAt threeAt twoAt endsAt numberAt numberValue valueOf isNumber sameWord spells wordAt sizeLineAt skipped isComment emptyLine lineNext lineEnd hasReturn lineStop runEnd runsAt past digitOf cased lowered classOf between _and_ _or_ pick isEntry sum bit entryBelow entryAt
+unfolding lineBelow headerOf bannerAt numbersAt threeAt twoAt endsAt numberAt numberValue valueOf isNumber sameWord spells wordAt sizeLineAt skipped isComment emptyLine lineNext lineEnd hasReturn lineStop stretchEnd stretchesAt past digitOf cased smallLetter classOf between _and_ _or_ pick isEntry sum bit entryBelow entryAt
 computing = Unit
 
 -- three lines, and then the text's end

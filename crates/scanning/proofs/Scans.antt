@@ -1,4 +1,4 @@
--- Laws of runs, lines, words and numbers, as the loops go through them.
+-- Laws of stretches, lines, words and numbers, as the loops go through them.
 -- Assumes nothing.
 use mathlib.Core.Bool.{Bool, true, false}
 use mathlib.Core.List.{List}
@@ -10,14 +10,14 @@ use native.Mathlib.Omega.{arith}
 use lib.Dec.{eqb, ltb, leb}
 use lib.ListN.{length, getD}
 use borrow.Author.Tests.{ltb-true, ltb-false, leb-true, lt-ltb, le-ltb, le-leb, lt-leb, eq-eqb, ne-eqb}
-use Rattle.counting.specs.Tests.{_and_, _or_, pick}
-use Rattle.counting.proofs.Joined.{by-test, no-way, and-left, and-right, and-intro, and-passed, and-fails-left, and-fails-right, pick-true, pick-false}
-use Rattle.scanning.specs.declared.Run.{Run}
-use Rattle.scanning.specs.declared.Run.the-variants.{Line, Digits}
+use Rattle.counting.specs.Tests.{_and_, _or_}
+use Rattle.counting.proofs.Joined.{by-test, and-left, and-right, and-intro, and-passed, and-fails-left, and-fails-right, pick-true, pick-false}
+use Rattle.scanning.specs.declared.Stretch.{Stretch}
+use Rattle.scanning.specs.declared.Stretch.the-variants.{Line, Digits}
 use Rattle.scanning.specs.declared.Number.{Number}
 use Rattle.scanning.specs.declared.Numbers.{Numbers}
 use Rattle.scanning.specs.Classes.{between, digitOf}
-use Rattle.scanning.specs.Lines.{past, runsAt, runEnd, lineStop, hasReturn, lineEnd, lineNext, emptyLine, isComment, passedOver, skipped, sizeLineAt}
+use Rattle.scanning.specs.Lines.{past, stretchesAt, stretchEnd, lineStop, hasReturn, lineEnd, lineNext, emptyLine, isComment, passedOver, skipped, sizeLineAt}
 use Rattle.scanning.specs.Words.{spells, sameWord, isNumber, valueOf, numberValue, numberAt, endsAt, threeAt, twoAt, numbersAt}
 
 -- a number between two others passes the test, any other fails it
@@ -65,29 +65,29 @@ past-on test at stop h e =
     let q : stop - at ≡ suc (stop - (at + 1)) = omega arith in
     ap (past test at) q ∙ pick-true (past test (at + 1) (stop - (at + 1))) at e
 
-module _ (run : Run) (text : List ℕ) (at stop : ℕ) where
-  pub run-here : runsAt run text at ≡ false → runEnd run text at stop ≡ at
-  unfolding runEnd
-  run-here e = past-here (runsAt run text) at (stop - at) e
+module _ (stretch : Stretch) (text : List ℕ) (at stop : ℕ) where
+  pub stretch-here : stretchesAt stretch text at ≡ false → stretchEnd stretch text at stop ≡ at
+  unfolding stretchEnd
+  stretch-here e = past-here (stretchesAt stretch text) at (stop - at) e
 
-  pub run-over : stop ≤ at → runEnd run text at stop ≡ at
-  unfolding runEnd
-  run-over h = past-end (runsAt run text) at stop h
+  pub stretch-over : stop ≤ at → stretchEnd stretch text at stop ≡ at
+  unfolding stretchEnd
+  stretch-over h = past-end (stretchesAt stretch text) at stop h
 
-  pub run-on : at < stop → runsAt run text at ≡ true → runEnd run text at stop ≡ runEnd run text (at + 1) stop
-  unfolding runEnd
-  run-on h e = past-on (runsAt run text) at stop h e
+  pub stretch-on : at < stop → stretchesAt stretch text at ≡ true → stretchEnd stretch text at stop ≡ stretchEnd stretch text (at + 1) stop
+  unfolding stretchEnd
+  stretch-on h e = past-on (stretchesAt stretch text) at stop h e
 
-  pub run-after : at ≤ runEnd run text at stop
-  unfolding runEnd
-  run-after = past-after (runsAt run text) at (stop - at)
+  pub stretch-after : at ≤ stretchEnd stretch text at stop
+  unfolding stretchEnd
+  stretch-after = past-after (stretchesAt stretch text) at (stop - at)
 
 -- a line is not empty of bytes: the next one starts later
 pub next-after : (text : List ℕ) (at : ℕ) → at < length text → at < lineNext text at
 unfolding lineNext lineStop
 next-after text at h =
-    let stop = runEnd Line text at (length text) in
-    let a : at ≤ stop = run-after Line text at (length text) in
+    let stop = stretchEnd Line text at (length text) in
+    let a : at ≤ stop = stretch-after Line text at (length text) in
     by-test
     (ltb stop (length text))
     (λ e. omega (arith, pick-true (stop + 1) stop e))
@@ -278,7 +278,7 @@ module _ (text : List ℕ) (at : ℕ) (comments empty : Bool) (e : empty ≡ emp
 
 -- the digits tell
 pub number-by :
-    (text : List ℕ) (from stop end : ℕ) → from < stop → stop - from ≤ 9 → end ≡ runEnd Digits text from stop →
+    (text : List ℕ) (from stop end : ℕ) → from < stop → stop - from ≤ 9 → end ≡ stretchEnd Digits text from stop →
     eqb end stop ≡ isNumber text from stop
 unfolding isNumber
 number-by text from stop end a b e =

@@ -6,8 +6,8 @@ use lib.Dec.{eqb, leb}
 use Rattle.counting.specs.Tests.{_and_, _or_, pick}
 use Rattle.scanning.specs.declared.Class.{Class}
 use Rattle.scanning.specs.declared.Class.the-variants.{Digit, Blank, Letter, Percent, LineEnd, Other}
-use Rattle.scanning.specs.declared.Run.{Run}
-use Rattle.scanning.specs.declared.Run.the-variants.{Line, Blanks, Nonblanks, Digits}
+use Rattle.scanning.specs.declared.Stretch.{Stretch}
+use Rattle.scanning.specs.declared.Stretch.the-variants.{Line, Blanks, Nonblanks, Digits}
 
 -- a byte from one to another
 unfoldable pub between : ℕ → ℕ → ℕ → Bool
@@ -63,20 +63,20 @@ isLineEnd Percent = false
 isLineEnd LineEnd = true
 isLineEnd Other = false
 
--- the bytes that a run goes on over: all but a line end, blanks, all but blanks, digits
-abbrev pub goesOn : Run → Class → Bool
-goesOn Line c = not (isLineEnd c)
-goesOn Blanks c = isBlank c
-goesOn Nonblanks c = not (isBlank c)
-goesOn Digits c = isDigit c
+-- the bytes that a stretch goes on over: all but a line end, blanks, all but blanks, digits
+abbrev pub stretchesOver : Stretch → Class → Bool
+stretchesOver Line c = not (isLineEnd c)
+stretchesOver Blanks c = isBlank c
+stretchesOver Nonblanks c = not (isBlank c)
+stretchesOver Digits c = isDigit c
 
 -- a capital letter as a small one
-unfoldable pub lowered : ℕ → ℕ
-lowered b = pick (between 65 90 b) (b + 32) b
+unfoldable pub smallLetter : ℕ → ℕ
+smallLetter b = pick (between 65 90 b) (b + 32) b
 
 -- any letter case, or this case
 unfoldable pub cased : Bool → ℕ → ℕ
-cased any b = pick any (lowered b) b
+cased any b = pick any (smallLetter b) b
 
 -- the value of a decimal digit
 unfoldable pub digitOf : ℕ → ℕ

@@ -6,26 +6,26 @@ use Prim.Native.Nat.{ℕ, zero, suc, _+_, _-_}
 use lib.Dec.{eqb, ltb}
 use lib.ListN.{length, getD}
 use Rattle.counting.specs.Tests.{_and_, _or_, pick}
-use Rattle.scanning.specs.declared.Run.{Run}
-use Rattle.scanning.specs.declared.Run.the-variants.{Line, Blanks}
-use Rattle.scanning.specs.Classes.{classOf, isPercent, goesOn}
+use Rattle.scanning.specs.declared.Stretch.{Stretch}
+use Rattle.scanning.specs.declared.Stretch.the-variants.{Line, Blanks}
+use Rattle.scanning.specs.Classes.{classOf, isPercent, stretchesOver}
 
 -- the first number from `at` on that fails the test, looking at so many
 unfoldable pub past : (ℕ → Bool) → ℕ → ℕ → ℕ
 past test at zero = at
 past test at (suc k) = pick (test at) (past test (at + 1) k) at
 
--- a run goes on over the byte at a place
-unfoldable pub runsAt : Run → List ℕ → ℕ → Bool
-runsAt run text at = goesOn run (classOf (getD text at 0))
+-- a stretch goes on over the byte at a place
+unfoldable pub stretchesAt : Stretch → List ℕ → ℕ → Bool
+stretchesAt stretch text at = stretchesOver stretch (classOf (getD text at 0))
 
--- where a run that starts at a place ends, with `stop` as its end at the latest
-unfoldable pub runEnd : Run → List ℕ → ℕ → ℕ → ℕ
-runEnd run text at stop = past (runsAt run text) at (stop - at)
+-- where a stretch that starts at a place ends, with `stop` as its end at the latest
+unfoldable pub stretchEnd : Stretch → List ℕ → ℕ → ℕ → ℕ
+stretchEnd stretch text at stop = past (stretchesAt stretch text) at (stop - at)
 
 -- lines end in LF; the last may lack it
 unfoldable pub lineStop : List ℕ → ℕ → ℕ
-lineStop text at = runEnd Line text at (length text)
+lineStop text at = stretchEnd Line text at (length text)
 
 -- a CR just before the LF at `stop`, in the line that starts at `at`
 unfoldable pub hasReturn : List ℕ → ℕ → ℕ → Bool
@@ -45,7 +45,7 @@ lineNext text at =
 
 -- empty: a line of nothing but blanks
 unfoldable pub emptyLine : List ℕ → ℕ → Bool
-emptyLine text at = eqb (runEnd Blanks text at (lineEnd text at)) (lineEnd text at)
+emptyLine text at = eqb (stretchEnd Blanks text at (lineEnd text at)) (lineEnd text at)
 
 -- comment: a line starting with %
 unfoldable pub isComment : List ℕ → ℕ → Bool

@@ -1,23 +1,23 @@
 -- Document 01, 'Texts': words, numbers, and lines of numbers.
 -- Assumes nothing.
-use mathlib.Core.Bool.{Bool, true, false}
+use mathlib.Core.Bool.{Bool}
 use mathlib.Core.List.{List}
 use Prim.Native.Nat.{ℕ, zero, suc, _+_, _-_, _*_}
 use lib.Dec.{eqb, ltb, leb}
 use lib.ListN.{length, getD}
 use Rattle.counting.specs.Tests.{_and_, pick}
-use Rattle.scanning.specs.declared.Run.the-variants.{Blanks, Nonblanks, Digits}
+use Rattle.scanning.specs.declared.Stretch.the-variants.{Blanks, Nonblanks, Digits}
 use Rattle.scanning.specs.declared.Span.{Span}
 use Rattle.scanning.specs.declared.Number.{Number}
 use Rattle.scanning.specs.declared.Numbers.{Numbers}
 use Rattle.scanning.specs.Classes.{cased, digitOf}
-use Rattle.scanning.specs.Lines.{past, runEnd}
+use Rattle.scanning.specs.Lines.{past, stretchEnd}
 
 -- the next word from `at` on, in a line that ends at `end`: blanks stand between words
 unfoldable pub wordAt : List ℕ → ℕ → ℕ → Span
 wordAt text at end =
-    let from = runEnd Blanks text at end in
-    record { from = from; stop = runEnd Nonblanks text from end }
+    let from = stretchEnd Blanks text at end in
+    record { from = from; stop = stretchEnd Nonblanks text from end }
 
 -- the bytes from `from` on spell so many bytes of a word
 unfoldable pub spells : List ℕ → ℕ → Bool → List ℕ → ℕ → Bool
@@ -31,7 +31,7 @@ sameWord text from stop any word =
 -- number: 1 to 9 decimal digits, no sign
 unfoldable pub isNumber : List ℕ → ℕ → ℕ → Bool
 isNumber text from stop =
-    ltb from stop and (leb (stop - from) 9 and eqb (runEnd Digits text from stop) stop)
+    ltb from stop and (leb (stop - from) 9 and eqb (stretchEnd Digits text from stop) stop)
 
 -- the value of so many digits
 unfoldable pub valueOf : List ℕ → ℕ → ℕ → ℕ
@@ -54,7 +54,7 @@ numberAt text at end =
 
 -- no word is left: blanks may also end a line
 unfoldable pub endsAt : List ℕ → ℕ → ℕ → Bool
-endsAt text at end = eqb (runEnd Blanks text at end) end
+endsAt text at end = eqb (stretchEnd Blanks text at end) end
 
 -- a line of three numbers
 unfoldable pub threeAt : List ℕ → ℕ → ℕ → Numbers

@@ -1,11 +1,11 @@
 // The classes of bytes.
 use crate::Class;
-use crate::Run;
+use crate::Stretch;
 ghost use mathlib.Core.Path.{_≡_};
-ghost use Rattle.scanning.specs.Classes.{classOf, isDigit, isBlank, isLineEnd, isPercent, goesOn, lowered, cased, digitOf};
+ghost use Rattle.scanning.specs.Classes.{classOf, isDigit, isBlank, isLineEnd, isPercent, stretchesOver, smallLetter, cased, digitOf};
 
 // Each byte falls into digit, blank, letter, percent sign, line end or anything else.
-pub fn class_of(b: u8) -> Class
+pub(crate) fn class_of(b: u8) -> Class
     ensures { λ r. ⌜ r ≡ classOf b ⌝ }
 {
     match b {
@@ -19,7 +19,7 @@ pub fn class_of(b: u8) -> Class
 }
 
 // The class is digit.
-pub fn is_digit(c: Class) -> bool
+fn is_digit(c: Class) -> bool
     ensures { λ r. ⌜ r ≡ isDigit c ⌝ }
 {
     match c {
@@ -33,7 +33,7 @@ pub fn is_digit(c: Class) -> bool
 }
 
 // The class is blank.
-pub fn is_blank(c: Class) -> bool
+fn is_blank(c: Class) -> bool
     ensures { λ r. ⌜ r ≡ isBlank c ⌝ }
 {
     match c {
@@ -47,7 +47,7 @@ pub fn is_blank(c: Class) -> bool
 }
 
 // The class is percent sign.
-pub fn is_percent(c: Class) -> bool
+pub(crate) fn is_percent(c: Class) -> bool
     ensures { λ r. ⌜ r ≡ isPercent c ⌝ }
 {
     match c {
@@ -61,7 +61,7 @@ pub fn is_percent(c: Class) -> bool
 }
 
 // The class is line end.
-pub fn is_line_end(c: Class) -> bool
+fn is_line_end(c: Class) -> bool
     ensures { λ r. ⌜ r ≡ isLineEnd c ⌝ }
 {
     match c {
@@ -74,21 +74,21 @@ pub fn is_line_end(c: Class) -> bool
     }
 }
 
-// A run goes on over a byte of this class.
-pub fn goes_on(run: Run, c: Class) -> bool
-    ensures { λ r. ⌜ r ≡ goesOn run c ⌝ }
+// A stretch goes on over a byte of this class.
+pub(crate) fn stretches_over(stretch: Stretch, c: Class) -> bool
+    ensures { λ r. ⌜ r ≡ stretchesOver stretch c ⌝ }
 {
-    match run {
-        Run::Line => !is_line_end(c),
-        Run::Blanks => is_blank(c),
-        Run::Nonblanks => !is_blank(c),
-        Run::Digits => is_digit(c),
+    match stretch {
+        Stretch::Line => !is_line_end(c),
+        Stretch::Blanks => is_blank(c),
+        Stretch::Nonblanks => !is_blank(c),
+        Stretch::Digits => is_digit(c),
     }
 }
 
 // A capital letter as a small one, and any other byte as it is.
-pub fn lower(b: u8) -> u8
-    ensures { λ r. ⌜ r ≡ lowered b ⌝ }
+fn small_letter(b: u8) -> u8
+    ensures { λ r. ⌜ r ≡ smallLetter b ⌝ }
 {
     if b < 65 {
         return b;
@@ -100,14 +100,14 @@ pub fn lower(b: u8) -> u8
 }
 
 // A byte in any letter case, or as it is.
-pub fn in_case(any: bool, b: u8) -> u8
+pub(crate) fn in_case(any: bool, b: u8) -> u8
     ensures { λ r. ⌜ r ≡ cased any b ⌝ }
 {
-    if any { lower(b) } else { b }
+    if any { small_letter(b) } else { b }
 }
 
 // The value of a digit, and 0 for any other byte.
-pub fn digit_of(b: u8) -> u8
+pub(crate) fn digit_of(b: u8) -> u8
     ensures { λ r. ⌜ r ≡ digitOf b ⌝ }
 {
     if b < 48 {

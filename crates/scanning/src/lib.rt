@@ -15,8 +15,8 @@ pub enum Class {
     Other,
 }
 
-// A run of bytes: up to the line's end, of blanks, of anything but blanks, or of digits.
-pub enum Run {
+// A stretch of bytes: up to the line's end, of blanks, of anything but blanks, or of digits.
+pub enum Stretch {
     Line,
     Blanks,
     Nonblanks,

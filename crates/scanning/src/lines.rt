@@ -1,37 +1,30 @@
 // Lines of a text, by the offset of their first byte. Past the end of a text every byte is 0.
-use crate::Run;
+use crate::Stretch;
 use crate::classes::class_of;
-use crate::classes::goes_on;
 use crate::classes::is_percent;
-use crate::tests::either;
+use crate::classes::stretches_over;
 use pattern::reading::byte_at;
+use pattern::reading::less;
+use pattern::tests::either_of;
 ghost use mathlib.Core.Path.{_≡_};
-ghost use Prim.Native.Nat.{_-_};
-ghost use Rattle.scanning.specs.Lines.{runsAt, runEnd, lineStop, hasReturn, lineEnd, lineNext, emptyLine, isComment, passedOver, skipped};
+ghost use Rattle.scanning.specs.Lines.{stretchesAt, stretchEnd, lineStop, hasReturn, lineEnd, lineNext, emptyLine, isComment, passedOver, skipped};
 
-// The difference of two numbers, and 0 where it would fall below.
-pub fn less(x: usize, y: usize) -> usize
-    ensures { λ r. ⌜ r ≡ x - y ⌝ }
-{
-    if x < y { 0 } else { x - y }
-}
-
-// A run goes on over the byte at a place.
-pub fn runs_at(text: &[u8], run: Run, at: usize) -> bool
-    ensures { λ r. ⌜ r ≡ runsAt run (now (text .entry)) at ⌝ }
+// A stretch goes on over the byte at a place.
+fn stretches_at(text: &[u8], stretch: Stretch, at: usize) -> bool
+    ensures { λ r. ⌜ r ≡ stretchesAt stretch (now (text .entry)) at ⌝ }
 {
     let b = byte_at(text, at);
     let c = class_of(b);
-    goes_on(run, c)
+    stretches_over(stretch, c)
 }
 
-// Where a run that starts at a place ends, with `stop` as its end at the latest.
-pub fn run_end(text: &[u8], run: Run, at: usize, stop: usize) -> usize
-    ensures { λ r. ⌜ r ≡ runEnd run (now (text .entry)) at stop ⌝ }
+// Where a stretch that starts at a place ends, with `stop` as its end at the latest.
+pub fn stretch_end(text: &[u8], stretch: Stretch, at: usize, stop: usize) -> usize
+    ensures { λ r. ⌜ r ≡ stretchEnd stretch (now (text .entry)) at stop ⌝ }
 {
     let mut i = at;
     while i < stop {
-        let on = runs_at(text, run, i);
+        let on = stretches_at(text, stretch, i);
         if !on {
             return i;
         }
@@ -41,15 +34,15 @@ pub fn run_end(text: &[u8], run: Run, at: usize, stop: usize) -> usize
 }
 
 // Where the line that starts at a place meets its LF, or the text's end.
-pub fn line_stop(text: &[u8], at: usize) -> usize
+fn line_stop(text: &[u8], at: usize) -> usize
     ensures { λ r. ⌜ r ≡ lineStop (now (text .entry)) at ⌝ }
 {
     let len = text.len();
-    run_end(text, Run::Line, at, len)
+    stretch_end(text, Stretch::Line, at, len)
 }
 
 // A CR stands just before the LF of the line that starts at a place.
-pub fn has_return(text: &[u8], at: usize, stop: usize) -> bool
+fn has_return(text: &[u8], at: usize, stop: usize) -> bool
     ensures { λ r. ⌜ r ≡ hasReturn (now (text .entry)) at stop ⌝ }
 {
     if text.len() <= stop {
@@ -83,16 +76,16 @@ pub fn line_next(text: &[u8], at: usize) -> usize
 }
 
 // Nothing but blanks.
-pub fn is_empty(text: &[u8], at: usize) -> bool
+fn is_empty(text: &[u8], at: usize) -> bool
     ensures { λ r. ⌜ r ≡ emptyLine (now (text .entry)) at ⌝ }
 {
     let end = line_end(text, at);
-    let blanks = run_end(text, Run::Blanks, at, end);
+    let blanks = stretch_end(text, Stretch::Blanks, at, end);
     blanks == end
 }
 
 // A comment: its very first byte is a percent sign.
-pub fn is_comment(text: &[u8], at: usize) -> bool
+fn is_comment(text: &[u8], at: usize) -> bool
     ensures { λ r. ⌜ r ≡ isComment (now (text .entry)) at ⌝ }
 {
     let b = byte_at(text, at);
@@ -107,7 +100,7 @@ pub fn is_passed_over(text: &[u8], at: usize, comments: bool) -> bool
     let empty = is_empty(text, at);
     if comments {
         let comment = is_comment(text, at);
-        either(empty, comment)
+        either_of(empty, comment)
     } else {
         empty
     }

@@ -4,7 +4,6 @@ use model::Word;
 ghost use mathlib.Core.Bool.{not};
 ghost use mathlib.Core.Path.{_≡_};
 ghost use Prim.Native.Nat.{_<_};
-ghost use Rattle.counting.specs.Tests.{_or_};
 ghost use Rattle.model.specs.Calls.{outside};
 ghost use Rattle.model.specs.Refusal.{refuse};
 ghost use Rattle.scanning.specs.Checks.{moved};
@@ -14,13 +13,6 @@ pub fn wide32(x: u32) -> usize
     ensures { λ r. ⌜ (r ≡ x) × (r < 4294967296) ⌝ }
 {
     x as usize
-}
-
-// One of the tests passes, or both.
-pub fn either(first: bool, second: bool) -> bool
-    ensures { λ r. ⌜ r ≡ (first or second) ⌝ }
-{
-    if first { true } else { second }
 }
 
 // Outside the range 1 to the limit.

@@ -1,14 +1,14 @@
 // Words and numbers of a line.
 use crate::Number;
 use crate::Numbers;
-use crate::Run;
 use crate::Span;
+use crate::Stretch;
 use crate::classes::digit_of;
 use crate::classes::in_case;
-use crate::lines::less;
-use crate::lines::run_end;
+use crate::lines::stretch_end;
 use pattern::reading::byte_at;
-use pattern::splits::both;
+use pattern::reading::less;
+use pattern::tests::both_of;
 ghost use mathlib.Core.Path.{_≡_};
 ghost use lib.Dec.{eqb};
 ghost use lib.ListN.{getD};
@@ -19,13 +19,13 @@ ghost use Rattle.scanning.specs.Words.{wordAt, sameWord, isNumber, numbe
 pub fn word_at(text: &[u8], at: usize, end: usize) -> Span
     ensures { λ r. ⌜ r ≡ wordAt (now (text .entry)) at end ⌝ }
 {
-    let from = run_end(text, Run::Blanks, at, end);
-    let stop = run_end(text, Run::Nonblanks, from, end);
+    let from = stretch_end(text, Stretch::Blanks, at, end);
+    let stop = stretch_end(text, Stretch::Nonblanks, from, end);
     Span { from, stop }
 }
 
 // The byte at a place is this one, in any letter case or in this one.
-pub fn is_byte(text: &[u8], at: usize, any: bool, b: u8) -> bool
+fn is_byte(text: &[u8], at: usize, any: bool, b: u8) -> bool
     ensures { λ r. ⌜ r ≡ eqb (cased any (getD (now (text .entry)) at 0)) b ⌝ }
 {
     let found = byte_at(text, at);
@@ -61,7 +61,7 @@ pub fn is_number(text: &[u8], from: usize, stop: usize) -> bool
     if 9 < less(stop, from) {
         return false;
     }
-    run_end(text, Run::Digits, from, stop) == stop
+    stretch_end(text, Stretch::Digits, from, stop) == stop
 }
 
 // The value of a number, and 0 where there is none.
@@ -83,7 +83,7 @@ pub fn number_value(text: &[u8], from: usize, stop: usize) -> u32
 }
 
 // The next word of a line as a number.
-pub fn number_at(text: &[u8], at: usize, end: usize) -> Number
+fn number_at(text: &[u8], at: usize, end: usize) -> Number
     ensures { λ r. ⌜ r ≡ numberAt (now (text .entry)) at end ⌝ }
 {
     let word = word_at(text, at, end);
@@ -100,7 +100,7 @@ pub fn number_at(text: &[u8], at: usize, end: usize) -> Number
 pub fn ends_at(text: &[u8], at: usize, end: usize) -> bool
     ensures { λ r. ⌜ r ≡ endsAt (now (text .entry)) at end ⌝ }
 {
-    run_end(text, Run::Blanks, at, end) == end
+    stretch_end(text, Stretch::Blanks, at, end) == end
 }
 
 // The numbers of a line, three or two.
@@ -110,12 +110,12 @@ pub fn numbers_at(text: &[u8], at: usize, end: usize, three: bool) -> Numbers
     let a = number_at(text, at, end);
     let b = number_at(text, a.stop, end);
     let c = number_at(text, b.stop, end);
-    let two = both(a.fine, b.fine);
+    let two = both_of(a.fine, b.fine);
     if three {
         let last = ends_at(text, c.stop, end);
-        let more = both(c.fine, last);
+        let more = both_of(c.fine, last);
         return Numbers {
-            fine: both(two, more),
+            fine: both_of(two, more),
             first: a.value,
             second: b.value,
             third: c.value,
@@ -123,7 +123,7 @@ pub fn numbers_at(text: &[u8], at: usize, end: usize, three: bool) -> Numbers
     }
     let last = ends_at(text, b.stop, end);
     Numbers {
-        fine: both(two, last),
+        fine: both_of(two, last),
         first: a.value,
         second: b.value,
         third: 1,

@@ -20,7 +20,7 @@ use Rattle.model.specs.Pattern.{Pattern, patternOf}
 use Rattle.model.specs.Walk.{Record, rulesOf, walk}
 use Rattle.model.specs.State.{recordOf, searchOf}
 use Rattle.model.specs.Calls.{ended, ranRecord, ranAfter}
-use Rattle.model.proofs.Theorems.Accepted.{refuse-not, refuse-so, refuse-no}
+use Rattle.model.proofs.Theorems.Checks.{refuse-not, refuse-so, refuse-no}
 use Rattle.state.specs.Holding.{normalOf}
 use Rattle.state.specs.Ready.{Ready, Fits}
 use Rattle.search.specs.Running.{budgetBy}
@@ -29,15 +29,15 @@ use Rattle.search.proofs.Runs.{search-complete}
 -- the cases of 13
 pub budget-over : (tries budget : ℕ) → budgetLimit < budget → Refused Budget 0 ≡ budgetBy tries budget
 unfolding budgetBy
-budget-over tries budget h = sym (refuse-so _ Budget 0 (or-left (ltb triesLimit (tries + budget)) (lt-ltb budgetLimit budget h)))
+budget-over tries budget h = sym (refuse-so Budget 0 (or-left (ltb triesLimit (tries + budget)) (lt-ltb budgetLimit budget h)))
 
 pub tries-over : (tries budget : ℕ) → triesLimit < tries + budget → Refused Budget 0 ≡ budgetBy tries budget
 unfolding budgetBy
-tries-over tries budget h = sym (refuse-so _ Budget 0 (or-right (ltb budgetLimit budget) (lt-ltb triesLimit (tries + budget) h)))
+tries-over tries budget h = sym (refuse-so Budget 0 (or-right (ltb budgetLimit budget) (lt-ltb triesLimit (tries + budget) h)))
 
 pub budget-taken : (tries budget : ℕ) → budget ≤ budgetLimit → tries + budget ≤ triesLimit → Accepted ≡ budgetBy tries budget
 unfolding budgetBy
-budget-taken tries budget h g = sym (refuse-no _ Budget 0 (or-fails (le-ltb budgetLimit budget h) (le-ltb triesLimit (tries + budget) g)))
+budget-taken tries budget h g = sym (refuse-no Budget 0 (or-fails (le-ltb budgetLimit budget h) (le-ltb triesLimit (tries + budget) g)))
 
 -- an accepted budget is within the limit on tries
 pub budget-within : (tries budget : ℕ) → budgetBy tries budget ≡ Accepted → tries + budget ≤ triesLimit

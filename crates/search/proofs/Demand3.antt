@@ -23,7 +23,7 @@ use Rattle.model.specs.Walk.{Record, rulesOf, freshOf, walk, walked}
 use Rattle.model.specs.State.{recordOf, searchOf}
 use Rattle.model.specs.Calls.{openVerdict, runVerdict, openedAfter, openCall, ended, ranRecord, ranAfter}
 use Rattle.model.proofs.Walk.Ending.{walk-counts, fresh-tries}
-use Rattle.model.proofs.Theorems.Accepted.{then-second, refuse-not}
+use Rattle.model.proofs.Theorems.Checks.{then-second, refuse-not}
 use Rattle.model.proofs.Theorems.Ends.{walked-adds}
 use Rattle.model.proofs.Theorems.Replies.{open-replies}
 use Rattle.search.specs.History.{acceptedBudget, Handed, runOf, showOf, partsOf, runTable, showTable, History, opened, ran, showed}

@@ -18,7 +18,7 @@ use Rattle.model.specs.Calls.{listVerdict, ranAfter, shownAfter, partsAfter}
 use Rattle.model.proofs.Walk.Reached.{For}
 use Rattle.model.proofs.Alike.Patterns.{Alike, alike-lists}
 use Rattle.model.proofs.Alike.Calls.{alike-ran, alike-shown-answer, alike-parts}
-use Rattle.model.proofs.Theorems.Accepted.{then-first, then-second, refuse-not}
+use Rattle.model.proofs.Theorems.Checks.{then-first, then-second, refuse-not}
 use Rattle.search.specs.History.{Handed}
 
 -- a state that is not refused has the list's sizes

@@ -21,7 +21,8 @@ use Rattle.model.proofs.Walk.Legal.{Orderly, walk-orderly}
 use Rattle.model.proofs.Walk.Reached.{For, walk-for}
 use Rattle.model.proofs.Walk.Exact.{best-is}
 use Rattle.model.proofs.Order.RulesSound.{rules-sound}
-use Rattle.model.proofs.Theorems.Accepted.{ListFine, list-accepted, accepted-inside, OpenFine, open-accepted, then-first, then-second, refuse-not}
+use Rattle.model.proofs.Theorems.Checks.{then-first, then-second, refuse-not}
+use Rattle.model.proofs.Theorems.Accepted.{ListFine, list-accepted, accepted-inside, OpenFine, open-accepted}
 use Rattle.model.proofs.Theorems.Least.{floor-below-volume, shown-within, complete-least}
 use Rattle.model.proofs.Theorems.Ends.{mostTries, walked-tries, walked-adds, walked-fine}
 use Rattle.model.proofs.Alike.Patterns.{Alike}

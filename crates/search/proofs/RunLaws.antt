@@ -13,8 +13,8 @@ use Rattle.model.specs.declared.Search.{Search}
 use Rattle.model.specs.Pattern.{patternOf}
 use Rattle.model.specs.Walk.{Record, Rules, rulesOf, tryOnce, walk}
 use Rattle.model.specs.State.{searchOf}
+use Rattle.model.proofs.Theorems.OfList.{rules-k}
 use Rattle.state.specs.Ready.{Ready, Fits}
-use Rattle.state.proofs.Validities.{rules-k}
 use Rattle.search.proofs.Runs.{walk-fits, walk-more, walk-done, walk-cap, search-cap, search-complete}
 
 -- s is the search after so many tries from s₀

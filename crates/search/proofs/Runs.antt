@@ -1,20 +1,18 @@
 -- Laws of a run: markings keep within their arrays, and so many tries lead to the walk's search.
 -- Assumes nothing.
 use mathlib.Core.Bool.{true, false}
-use mathlib.Core.List.{List}
 use mathlib.Core.Logic.{_⊎_, inl, inr}
-use mathlib.Core.Option.{Option, some}
 use mathlib.Core.Path.{_≡_, refl, sym, _∙_, ap}
 use Prim.Native.Nat.{ℕ, _+_, _-_, _≤_}
 use native.Mathlib.Numerals.{add-one}
 use native.Mathlib.Omega.{arith}
 use lib.ListN.{length}
 use Rattle.model.specs.Walk.{Record, Rules, tried, improved, tryOnce, walk}
-use Rattle.model.specs.State.{recordOf, searchOf}
+use Rattle.model.specs.State.{searchOf}
 use Rattle.model.proofs.Walk.Steps.{try-keeps, step-tries, walk-keeps, walk-adds, complete-stays}
 use Rattle.model.proofs.Walk.Left.{advance-length}
 use Rattle.state.specs.Ready.{Fits}
-use Rattle.state.proofs.Held.{record-back}
+use Rattle.state.proofs.Accepting.{some-same}
 
 -- a try keeps it so
 try-fits : (R : Rules) (r : Record) → Fits (R .k) r → Fits (R .k) (tryOnce R r)
@@ -33,17 +31,9 @@ try-fits R r f =
       trail-fits = omega (arith, f .trail-fits, advance-length (r .trail));
       best-fits = f .best-fits;
     })
-  where
-    some-same : {a b : List ℕ} → _≡_ {A = Option (List ℕ)} (some a) (some b) → a ≡ b
-    some-same e = cc
 
 pub walk-fits : (R : Rules) (tries : ℕ) (r : Record) → Fits (R .k) r → Fits (R .k) (walk R tries r)
 walk-fits R tries r f = walk-keeps R (λ s. Fits (R .k) s) (λ s going g. try-fits R s g) tries r f
-
--- a record that fits reads back off its search
-pub fits-back : (k : ℕ) (r : Record) → k ≤ 240 → Fits k r → recordOf (searchOf r) ≡ r
-fits-back k r small f =
-    record-back r (omega (arith, f .trail-fits)) (λ τ e. omega (arith, f .best-fits τ e))
 
 -- one try more of a walk that is not complete
 pub walk-more :

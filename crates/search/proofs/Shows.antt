@@ -2,10 +2,9 @@
 -- Assumes nothing.
 use mathlib.Core.Bool.{Bool, true, false}
 use mathlib.Core.List.{List, [], _∷_}
-use mathlib.Core.Option.{Option, some, none}
+use mathlib.Core.Option.{Option, none}
 use mathlib.Core.Path.{_≡_, refl, sym, _∙_, ap}
 use Prim.Native.Nat.{ℕ, _≤_, _<_}
-use lib.Dec.{ltb}
 use lib.ListN.{length}
 use borrow.Author.Tests.{lt-ltb, le-ltb}
 use Rattle.counting.proofs.Joined.{pick-true, pick-false}
@@ -21,9 +20,9 @@ use Rattle.model.specs.Split.{volume}
 use Rattle.model.specs.Walk.{Record, Rules, rulesOf, beginningsLater, openMarkings, leastBound, floor}
 use Rattle.model.specs.State.{marksIn, bestIn, recordOf, stateFine}
 use Rattle.model.specs.Calls.{listVerdict, showVerdict, shownFrom, shown, partBytes, shownParts, shownAfter, partsAfter, showCall, showParts}
-use Rattle.model.proofs.Theorems.Accepted.{refuse-so, refuse-no}
+use Rattle.model.proofs.Theorems.Checks.{refuse-so, refuse-no}
 use Rattle.state.specs.Ready.{Ready, Fits}
-use Rattle.state.proofs.Accepting.{ready-fits}
+use Rattle.state.proofs.Accepting.{ready-fits, best-some}
 use Rattle.state.proofs.Checks.{stateThen, then-later}
 use Rattle.search.specs.Showing.{roomBy}
 
@@ -42,11 +41,11 @@ module _ (R : Rules) (s : Search) where
 -- the parts are too short, or not
 pub room-short : (parts : List ℕ) (nonzeros : ℕ) → length parts < nonzeros → roomBy parts nonzeros ≡ Refused ShortBuffer 0
 unfolding roomBy
-room-short parts nonzeros h = refuse-so (ltb (length parts) nonzeros) ShortBuffer 0 (lt-ltb (length parts) nonzeros h)
+room-short parts nonzeros h = refuse-so ShortBuffer 0 (lt-ltb (length parts) nonzeros h)
 
 pub room-enough : (parts : List ℕ) (nonzeros : ℕ) → nonzeros ≤ length parts → roomBy parts nonzeros ≡ Accepted
 unfolding roomBy
-room-enough parts nonzeros h = refuse-no (ltb (length parts) nonzeros) ShortBuffer 0 (le-ltb (length parts) nonzeros h)
+room-enough parts nonzeros h = refuse-no ShortBuffer 0 (le-ltb (length parts) nonzeros h)
 
 -- a refused showing
 module _ (r : Record) (P : Pattern) (v : Verdict) (word : Word) (place : ℕ) (e : v ≡ Refused word place) where
@@ -57,10 +56,6 @@ module _ (r : Record) (P : Pattern) (v : Verdict) (word : Word) (place : ℕ) (e
   pub parts-refused : (parts : List ℕ) → parts ≡ partsAfter v r P parts
   unfolding partsAfter
   parts-refused parts = ap (λ (x : Verdict). partsAfter x r P parts) (sym e)
-
-best-some : (s : Search) → s .found ≡ true → recordOf s .best ≡ some (marksIn (s .best))
-unfolding recordOf bestIn
-best-some s h = ap (λ (b : Bool). bestIn b (s .best)) h
 
 best-none : (s : Search) → s .found ≡ false → recordOf s .best ≡ none
 unfolding recordOf bestIn

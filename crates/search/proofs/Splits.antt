@@ -16,8 +16,9 @@ use Rattle.model.specs.Calls.{shownFrom, partBytes}
 use Rattle.model.proofs.Alike.Patterns.{alike-self}
 use Rattle.model.proofs.Alike.Marks.{AlikeMarks, inside-marks}
 use Rattle.model.proofs.Alike.Shown.{shown-bytes-same}
+use Rattle.model.proofs.Theorems.OfList.{size-of}
 use Rattle.pattern.specs.Splits.{splitOf}
-use Rattle.marking.specs.Marks.{markBy}
+use Rattle.marking.specs.Marks.{markFor}
 use Rattle.weighing.specs.Cells.{markingIn}
 use Rattle.bound.specs.declared.Evaluation.{Evaluation}
 use Rattle.bound.specs.Evaluated.{Listed, Placed, Evaluates}
@@ -31,14 +32,11 @@ trail-parts : (τ : List ℕ) → (trailOf τ .marks ≡ arrayOf τ) × (trailOf
 unfolding trailOf
 trail-parts τ = (refl, refl)
 
-pub size-is : (m n nonzeros : ℕ) (list : List ℕ) → patternOf m n nonzeros list .size ≡ nonzeros
-unfolding patternOf
-size-is m n nonzeros list = refl
-
 module _
-    (m n nonzeros : ℕ) (list places starts : List ℕ) (cap : ℕ) (best kept : Trail) (entries parts new : List ℕ) (judged : Evaluation)
+    (m n nonzeros : ℕ) (list places starts : List ℕ) (cap total : ℕ) (best kept : Trail) (entries parts new : List ℕ) (judged : Evaluation)
     (clears : kept ≡ clearedTo best)
-    (marked : (l : ℕ) → l < m + n → markingIn entries l ≡ markBy (kept .marks) (kept .len) (getD places l 0))
+    (all : total ≡ m + n) (few : total < 512)
+    (marked : (length entries ≡ 512) × ((l : ℕ) → l < 512 → getD entries l 0 ≡ markFor total places (kept .marks) (kept .len) l))
     (judges : Listed m n nonzeros list starts → Evaluates (patternOf m n nonzeros list) cap (markingIn entries) judged)
     (writes : judged .zero ≡ taken (patternOf m n nonzeros list) (markingIn entries) Zero → new ≡ partBytes (shownSplit (patternOf m n nonzeros list) cap (markingIn entries)) nonzeros parts)
     (listed : Listed m n nonzeros list starts) (placed : Placed (patternOf m n nonzeros list) places) (short : best .len ≤ 240) where
@@ -49,12 +47,12 @@ module _
       let P = patternOf m n nonzeros list in
       let τ = marksIn best in
       let held = clears ∙ cleared-is best short in
-      let same = by-line m n nonzeros list places (kept .marks) entries (kept .len) marked placed τ (omega (arith, marks-length best)) (ap (λ (t : Trail). t .marks) held ∙ trail-parts τ .0) (ap (λ (t : Trail). t .len) held ∙ trail-parts τ .1) in
+      let same = by-line m n nonzeros list places (kept .marks) entries (kept .len) total all few marked placed τ (omega (arith, marks-length best)) (ap (λ (t : Trail). t .marks) held ∙ trail-parts τ .0) (ap (λ (t : Trail). t .len) held ∙ trail-parts τ .1) in
       let k : AlikeMarks P P (markingIn entries) (marking P τ) = inside-marks (listed .inside) (alike-self P) same in
       writes (judges listed .zero-is)
-      ∙ ap (λ (x : ℕ). partBytes (shownSplit P cap (markingIn entries)) x parts) (sym (size-is m n nonzeros list))
+      ∙ ap (λ (x : ℕ). partBytes (shownSplit P cap (markingIn entries)) x parts) (sym (size-of m n nonzeros list))
       ∙ shown-bytes-same k cap parts
-      ∙ ap (λ (x : ℕ). partBytes (shownSplit P cap (marking P τ)) x parts) (size-is m n nonzeros list)
+      ∙ ap (λ (x : ℕ). partBytes (shownSplit P cap (marking P τ)) x parts) (size-of m n nonzeros list)
 
   -- and the volume read off them
   pub volume-shown :
@@ -64,5 +62,5 @@ module _
       let P = patternOf m n nonzeros list in
       let σ = shownFrom P cap (marksIn best) in
       e
-      ∙ ap (λ (b : List ℕ). volume P (splitOf b)) (parts-shown ∙ ap (λ (x : ℕ). partBytes σ x parts) (sym (size-is m n nonzeros list)))
-      ∙ volume-back P σ parts (omega (arith, size-is m n nonzeros list, room))
+      ∙ ap (λ (b : List ℕ). volume P (splitOf b)) (parts-shown ∙ ap (λ (x : ℕ). partBytes σ x parts) (sym (size-of m n nonzeros list)))
+      ∙ volume-back P σ parts (omega (arith, size-of m n nonzeros list, room))

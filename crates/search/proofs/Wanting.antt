@@ -15,7 +15,7 @@ use Rattle.model.specs.declared.Word.the-variants.{ShortBuffer, Cap, NoSplit, T
 use Rattle.model.specs.declared.Verdict.{Verdict}
 use Rattle.model.specs.declared.Verdict.the-variants.{Accepted, Refused}
 use Rattle.model.specs.Limits.{capLimit}
-use Rattle.model.specs.Refusal.{refuse, _then_}
+use Rattle.model.specs.Refusal.{refuse, _then_, eachVerdict}
 use Rattle.model.specs.Pattern.{patternOf}
 use Rattle.model.specs.Calls.{listVerdict, openVerdict, sizesVerdict, entryVerdict, entriesVerdict}
 use Rattle.model.proofs.Theorems.Accepted.{open-accepted}
@@ -43,7 +43,7 @@ entry-other m n list t =
     then-other _ _ (refuse-other _ OffMatrix t (λ e. never (cc))) (refuse-other _ Order t (λ e. never (cc)))
 
 entries-other : (m n : ℕ) (list : List ℕ) (t : ℕ) → Other (entriesVerdict m n list t)
-unfolding entriesVerdict
+unfolding eachVerdict
 entries-other m n list zero = λ p e. never (cc)
 entries-other m n list (suc t) = then-other _ _ (entries-other m n list t) (entry-other m n list t)
 

@@ -84,7 +84,7 @@ pub record RunAnswered (verdict : Verdict) (after : Record) (s : Search) (answer
   -- otherwise complete, or stopped, as the walk's record
   pub complete : (answer .answer ≡ run-answer.Complete) ↔ ((verdict ≡ Accepted) × (after .complete ≡ true))
   pub stopped : (answer .answer ≡ run-answer.Stopped) ↔ ((verdict ≡ Accepted) × (after .complete ≡ false))
-  -- the same in numbers
+  -- what the run replies in numbers
   pub reply : runReply (answer .answer) ≡ replyAfter verdict (given (completeNumber (after .complete) ∷ []))
 
 -- what a split that was answered is: `shown` and `low` are the volume and the floor answered, `after` the bytes left in the parts buffer
@@ -119,7 +119,7 @@ pub record ShowAnswered (P : Pattern) (cap : ℕ) (r : Record) (verdict : Verdic
       (best : List ℕ) → verdict ≡ Accepted → r .best ≡ some best →
       answer ≡ show-answer.Split (volume P (shownFrom P cap best)) (floor (rulesOf P cap) r)
   pub split : (shown low : ℕ) → answer ≡ show-answer.Split shown low → SplitAnswered P cap r parts shown low after
-  -- the same in numbers
+  -- what the showing replies in numbers
   pub reply : showReply answer ≡ replyAfter verdict (shownReply P cap (r .best) (floor (rulesOf P cap) r))
 
 -- demand 3 over the whole list: at each of its points, and for what each call answered

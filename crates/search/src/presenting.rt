@@ -1,8 +1,9 @@
 // A showing: the split in the lent parts, its volume, and the floor.
 use bound::evaluating::evaluate_lines;
-use bound::evaluating::marks_of;
+use bound::tables::lines_of;
 use bound::tables::places;
 use flooring::least::least_open;
+use marking::marks::marks_by_line;
 use matching::starts::row_starts;
 use model::Search;
 use model::ShowAnswer;
@@ -83,7 +84,7 @@ fn show_split(
 {
     let kept = cleared(best);
     let marks = kept.marks;
-    let by_line = marks_of(m, n, places, &marks, kept.len);
+    let by_line = marks_by_line(lines_of(m, n), places, &marks, kept.len);
     let judged = evaluate_lines(m, n, nonzeros, list, cap, starts, &by_line);
     write_split(m, n, nonzeros, list, cap, &by_line, judged.zero, parts);
     volume_of(m, n, nonzeros, list, parts)

@@ -4,9 +4,9 @@ use pattern::reading::long16;
 use pattern::reading::put;
 use pattern::reading::row_of;
 use pattern::reading::wide16;
-use weighing::cells::bit_of;
-use weighing::cells::both_of;
-use weighing::cells::either_of;
+use pattern::tests::bit_of;
+use pattern::tests::both_of;
+use pattern::tests::either_of;
 use weighing::taking::takes_by;
 ghost use mathlib.Core.Bool.{not};
 ghost use mathlib.Core.Path.{_≡_};
@@ -23,7 +23,7 @@ ghost use Rattle.weighing.specs.Cells.{markingIn};
 ghost use Rattle.showing.specs.Parts.{shownPart};
 
 // The number of a nonzero's part, by whether 0 takes it, 1 takes it, and part 0 has room.
-pub fn shown_part(zero: bool, one: bool, room: bool) -> u8
+fn shown_part(zero: bool, one: bool, room: bool) -> u8
     ensures { λ r. ⌜ r ≡ shownPart zero one room ⌝ }
 {
     if zero {
@@ -36,14 +36,14 @@ pub fn shown_part(zero: bool, one: bool, room: bool) -> u8
 }
 
 // Part 0 has fewer nonzeros than the cap: those taken and those filled in.
-pub fn has_room(taken: u16, filled: u16, cap: u64) -> bool
+fn has_room(taken: u16, filled: u16, cap: u64) -> bool
     ensures { λ r. ⌜ r ≡ ltb (taken + filled) cap ⌝ }
 {
     long16(taken) + long16(filled) < cap
 }
 
 // What a nonzero adds to those filled in: 1 if neither part takes it and part 0 has room.
-pub fn filled_by(zero: bool, one: bool, room: bool) -> u16
+fn filled_by(zero: bool, one: bool, room: bool) -> u16
     ensures { λ r. ⌜ r ≡ bit (not (zero or one) and room) ⌝ }
 {
     let free = !either_of(zero, one);
@@ -51,7 +51,7 @@ pub fn filled_by(zero: bool, one: bool, room: bool) -> u16
 }
 
 // Writes the part of nonzero t; past the end of the parts it writes nothing.
-pub fn write_part(parts: &mut [u8], t: u16, part: u8)
+fn write_part(parts: &mut [u8], t: u16, part: u8)
     ensures { λ _. ⌜ now (parts .exit) ≡ set (now (parts .entry)) t part ⌝ }
 {
     put(parts, wide16(t), part);

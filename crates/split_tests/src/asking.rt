@@ -39,7 +39,7 @@ pub(crate) fn pattern(name: &[u8], line: &[u8], body: &[u8]) {
     start(name, &page, len);
 }
 
-// The same with an integer text.
+// A first line, and an integer text by what follows its own first line.
 pub(crate) fn integer(name: &[u8], line: &[u8], body: &[u8]) {
     let mut page = [0u8; 256];
     let text = lay(&mut page, 0, line);

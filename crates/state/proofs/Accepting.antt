@@ -13,7 +13,7 @@ use Rattle.counting.proofs.Joined.{clash, and-left, and-right, never}
 use Rattle.model.specs.declared.Verdict.the-variants.{Accepted}
 use Rattle.model.specs.declared.Search.{Search}
 use Rattle.model.specs.Limits.{lineLimit}
-use Rattle.model.specs.Pattern.{Pattern, patternOf, lineTotal}
+use Rattle.model.specs.Pattern.{patternOf, lineTotal}
 use Rattle.model.specs.Walk.{Record, Rules, rulesOf, cuts, isEmpty}
 use Rattle.model.specs.State.{marksIn, bestIn, recordOf, searchOf, areMarks, startsWithZero, beginningsValid, trailFine, bestFine, stateFine}
 use Rattle.model.specs.Calls.{listVerdict}
@@ -22,6 +22,7 @@ use Rattle.matching.specs.Starts.{rowStart}
 use Rattle.bound.specs.Evaluated.{Placed}
 use Rattle.bound.proofs.Evaluations.{accepted-listed}
 use Rattle.model.proofs.Theorems.Accepted.{list-accepted}
+use Rattle.model.proofs.Theorems.OfList.{rules-k}
 use Rattle.state.specs.Ready.{Ready, Fits}
 use Rattle.state.proofs.Normal.{normal-is}
 use Rattle.state.proofs.Held.{few-lines}
@@ -32,7 +33,7 @@ unfolding isEmpty
 empty-short R [] h = omega arith
 empty-short R (x ∷ τ) h = clash h refl
 
-some-same : {a b : List ℕ} → _≡_ {A = Option (List ℕ)} (some a) (some b) → a ≡ b
+pub some-same : {a b : List ℕ} → _≡_ {A = Option (List ℕ)} (some a) (some b) → a ≡ b
 some-same e = cc
 
 absurd-none : {A : Type 0} {a : List ℕ} → _≡_ {A = Option (List ℕ)} none (some a) → A
@@ -69,9 +70,10 @@ fine-fits R m n nonzeros r h =
       best-fits = best-short R (r .best) (r .bestCount) (r .complete) (and-right _ (bestFine R (r .best) (r .bestCount) (r .complete)) h);
     }
 
-found-best : (s : Search) → s .found ≡ true → bestIn (s .found) (s .best) ≡ some (marksIn (s .best))
-unfolding bestIn
-found-best s h = ap (λ (b : Bool). bestIn b (s .best)) h
+-- the best marking that a search holds, where it has found one
+pub best-some : (s : Search) → s .found ≡ true → recordOf s .best ≡ some (marksIn (s .best))
+unfolding recordOf bestIn
+best-some s h = ap (λ (b : Bool). bestIn b (s .best)) h
 
 -- so its trail and its best marking fit their arrays
 module _ (s : Search) (k : ℕ) (small : k ≤ 240) (f : Fits k (recordOf s)) where
@@ -81,7 +83,7 @@ module _ (s : Search) (k : ℕ) (small : k ≤ 240) (f : Fits k (recordOf s)) wh
 
   pub best-fits : s .found ≡ true → s .best .len ≤ 240
   unfolding recordOf
-  best-fits found = omega (arith, f .best-fits (marksIn (s .best)) (found-best s found), marks-length (s .best))
+  best-fits found = omega (arith, f .best-fits (marksIn (s .best)) (best-some s found), marks-length (s .best))
 
   -- and its cleared search is the search of its record
   pub fine-normal : normalOf s ≡ searchOf (recordOf s)
@@ -108,10 +110,6 @@ accepted-ready m n nonzeros list places starts k h placed started total =
       few = omega (arith, total, accepted-few m n nonzeros list h);
     }
 
-pub rules-total : (P : Pattern) (cap : ℕ) → rulesOf P cap .k ≡ lineTotal P
-unfolding rulesOf
-rules-total P cap = refl
-
 pub fits-at : (j k : ℕ) (r : Record) → j ≡ k → Fits j r → Fits k r
 fits-at j k r e f = record { trail-fits = omega (arith, e, f .trail-fits); best-fits = λ τ b. omega (arith, e, f .best-fits τ b) }
 
@@ -121,4 +119,4 @@ pub ready-fits :
     stateFine (rulesOf (patternOf m n nonzeros list) (s .cap)) m n nonzeros (recordOf s) ≡ true → Fits k (recordOf s)
 ready-fits m n nonzeros list places starts k s ready fine =
     let P = patternOf m n nonzeros list in
-    fits-at _ k (recordOf s) (rules-total P (s .cap) ∙ sym (ready .total)) (fine-fits (rulesOf P (s .cap)) m n nonzeros (recordOf s) fine)
+    fits-at _ k (recordOf s) (rules-k P (s .cap) ∙ sym (ready .total)) (fine-fits (rulesOf P (s .cap)) m n nonzeros (recordOf s) fine)

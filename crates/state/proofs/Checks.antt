@@ -14,7 +14,7 @@ use Rattle.model.specs.Pattern.{patternOf}
 use Rattle.model.specs.Walk.{rulesOf}
 use Rattle.model.specs.State.{recordOf, stateFine}
 use Rattle.model.specs.Calls.{listVerdict}
-use Rattle.model.proofs.Theorems.Accepted.{refuse-so, refuse-no}
+use Rattle.model.proofs.Theorems.Checks.{refuse-so, refuse-no}
 
 -- the checks of a list and of a state, and then a later one
 unfoldable pub stateThen : Search → ℕ → ℕ → ℕ → List ℕ → Verdict → Verdict
@@ -31,7 +31,7 @@ module _ (s : Search) (m n nonzeros : ℕ) (list : List ℕ) (later : Verdict) w
       stateThen s m n nonzeros list later ≡ later
   unfolding stateThen _then_
   then-later listed fine =
-      rw (listed, refuse-no (not (stateFine (rulesOf (patternOf m n nonzeros list) (s .cap)) m n nonzeros (recordOf s))) State 0 (ap not fine))
+      rw (listed, refuse-no {test = not (stateFine (rulesOf (patternOf m n nonzeros list) (s .cap)) m n nonzeros (recordOf s))} State 0 (ap not fine))
 
   -- the state is refused
   pub then-unfit :
@@ -40,7 +40,7 @@ module _ (s : Search) (m n nonzeros : ℕ) (list : List ℕ) (later : Verdict) w
       stateThen s m n nonzeros list later ≡ Refused State 0
   unfolding stateThen _then_
   then-unfit listed unfit =
-      rw (listed, refuse-so (not (stateFine (rulesOf (patternOf m n nonzeros list) (s .cap)) m n nonzeros (recordOf s))) State 0 (ap not unfit))
+      rw (listed, refuse-so {test = not (stateFine (rulesOf (patternOf m n nonzeros list) (s .cap)) m n nonzeros (recordOf s))} State 0 (ap not unfit))
 
   -- the list is refused
   pub then-unlisted :

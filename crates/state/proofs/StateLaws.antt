@@ -10,7 +10,7 @@ use lib.Dec.{eqb, leb}
 use lib.ListN.{length, getD}
 use borrow.Author.Tests.{eq-eqb, ne-eqb, eqb-true, leb-true, not-true}
 use Rattle.counting.specs.Tests.{_and_, pick}
-use Rattle.counting.proofs.Joined.{no-way, clash, and-left, and-right, pick-true, pick-false}
+use Rattle.counting.proofs.Joined.{no-way, clash, and-left, and-right, pick-true, pick-false, and-turned, and-all}
 use Rattle.trail.specs.declared.Trail.{Trail}
 use Rattle.trail.specs.Trail.{markOr}
 use Rattle.model.specs.declared.Search.{Search}
@@ -51,11 +51,6 @@ empty-is (x ∷ τ) = sym (ne-eqb (length (x ∷ τ)) 0 (λ e. no-way (omega ari
 marks-empty : (trail : Trail) → isEmpty (marksIn trail) ≡ eqb (trail .len) 0
 marks-empty trail = empty-is (marksIn trail) ∙ ap (λ (l : ℕ). eqb l 0) (marks-length trail)
 
-and-none : (z : Bool) → z ≡ z and true
-unfolding _and_
-and-none true = refl
-and-none false = refl
-
 swapped : (v l z : Bool) → v and l and z ≡ l and v and z
 unfolding _and_
 swapped true true z = refl
@@ -65,7 +60,7 @@ swapped false false z = refl
 
 turned : (v l z : Bool) → v and l and z ≡ l and z and v
 unfolding _and_
-turned true true z = and-none z
+turned true true z = sym (and-all z true refl)
 turned true false z = refl
 turned false true true = refl
 turned false true false = refl
@@ -137,12 +132,6 @@ full-is R best valid count small v =
     (λ x.
     let e : best .len ≡ R .k = omega (arith, eqb-true (length (marksIn best)) (R .k) x, marks-length best) in
     (v e, legal-is best (omega arith), ap (λ (n : ℕ). eqb n count) (cuts-is best (omega arith))))
-
-and-turned : (a b : Bool) → a and b ≡ b and a
-unfolding _and_
-and-turned true b = and-none b
-and-turned false true = refl
-and-turned false false = refl
 
 best-by :
     (R : Rules) (s : Search) (valid : Bool) → R .k ≤ 240 →

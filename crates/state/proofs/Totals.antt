@@ -6,8 +6,9 @@ use Prim.Native.Nat.{ℕ, _+_, _≤_, _<_}
 use native.Mathlib.Omega.{arith}
 use lib.ListN.{getD}
 use Rattle.model.specs.Pattern.{patternOf, lineCount, lineTotal}
+use Rattle.model.proofs.Theorems.OfList.{lines-of}
 use Rattle.marking.specs.Order.{totalBy}
-use Rattle.marking.proofs.Ordered.{lines-of, lines-small, total-is}
+use Rattle.marking.proofs.Ordered.{lines-small, total-is}
 
 -- the number of lines with nonzeros, from the counts of lines
 pub total-of-counts :

@@ -12,13 +12,14 @@ use Rattle.trail.specs.declared.Trail.{Trail}
 use Rattle.trail.specs.Trail.{dropped}
 use Rattle.trail.proofs.Methods.{dropped-length}
 use Rattle.model.specs.declared.Search.{Search}
-use Rattle.model.specs.Pattern.{Pattern, Inside, patternOf, lineTotal}
+use Rattle.model.specs.Pattern.{Pattern, Inside, patternOf}
 use Rattle.model.specs.Marking.{marking, valid}
 use Rattle.model.specs.Walk.{rulesOf}
 use Rattle.model.specs.State.{marksIn, bestIn, recordOf, arrayOf, trailOf, beginningsValid, trailFine, bestFine, stateFine}
 use Rattle.model.proofs.Walk.Sound.{whole, longer}
 use Rattle.model.proofs.Bound.Extended.{valid-begins}
 use Rattle.model.proofs.Order.Marks.{begins-extends}
+use Rattle.model.proofs.Theorems.OfList.{rules-k, rules-valid}
 use Rattle.marking.proofs.Trails.{marks-dropped}
 use Rattle.bound.specs.declared.Evaluation.{Evaluation}
 use Rattle.bound.specs.Evaluated.{Listed, Placed, Evaluates}
@@ -81,14 +82,6 @@ valid-cleared m n nonzeros list places starts cap trail kept j e judged listed p
     (ap (λ (t : Trail). t .marks) d)
     (ap (λ (t : Trail). t .len) d)
     .valid-is
-
-pub rules-k : (P : Pattern) (cap : ℕ) → rulesOf P cap .k ≡ lineTotal P
-unfolding rulesOf
-rules-k P cap = refl
-
-rules-valid : (P : Pattern) (cap : ℕ) (τ : List ℕ) → valid P cap (marking P τ) ≡ rulesOf P cap .valid τ
-unfolding rulesOf
-rules-valid P cap τ = refl
 
 -- what the code has of a state check
 pub record Checked (m n nonzeros : ℕ) (list places starts : List ℕ) (k : ℕ) (s : Search) (beginning : Trail) (begins full numbers trail best : Bool) : Type 0 where

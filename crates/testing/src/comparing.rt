@@ -1,7 +1,7 @@
 // Bytes and searches compared.
 use model::Search;
-use model::Trail;
 use pattern::reading::byte_at;
+use trail::Trail;
 ghost use mathlib.Core.Bool.{true};
 ghost use mathlib.Core.Path.{_≡_};
 ghost use Prim.Native.Nat.{ℕ, _<_, _≤_};

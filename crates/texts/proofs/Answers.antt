@@ -13,15 +13,14 @@ use Rattle.model.specs.declared.Verdict.the-variants.{Accepted, Refused}
 use Rattle.model.specs.Limits.{lineLimit}
 use Rattle.model.specs.Refusal.{given, replyAfter, _then_}
 use Rattle.model.specs.Calls.{sizesVerdict}
-use Rattle.model.proofs.Theorems.Accepted.{then-second}
-use Rattle.pattern.proofs.Verdicts.{then-accepted, then-refused, then-first, rows-small}
+use Rattle.model.proofs.Theorems.Checks.{then-second, then-accepted, then-refused, then-first, rows-range}
 use Rattle.scanning.specs.Checks.{moved}
 use Rattle.texts.specs.declared.Header.{Header}
 use Rattle.texts.specs.declared.ReadAnswer.{ReadAnswer}
 use Rattle.texts.specs.declared.ReadAnswer.the-variants as read-answer
 use Rattle.texts.specs.Header.{headerOf, headVerdict}
 use Rattle.texts.specs.Entries.{noCells, Entries, entriesFrom}
-use Rattle.texts.specs.Reading.{listed, parted, givenParts, entriesBelow, answerAfter, outputAfter, listAfter, partsAfter, textVerdict, readVerdict, readCall, readList, readParts, readReply, readReplies}
+use Rattle.texts.specs.Reading.{listed, parted, givenParts, entriesBelow, answerRead, outputAfter, listGiven, partsGiven, textVerdict, readVerdict, readCall, readList, readParts, readReply, readReplies}
 
 moved-fine : (v : Verdict) (place : ℕ) → moved v place ≡ Accepted → v ≡ Accepted
 unfolding moved
@@ -36,7 +35,7 @@ head-sizes h text list parts e =
     moved-fine (sizesVerdict (h .m) (h .n) (h .nonzeros)) (h .at) (then-second _ _ (then-first _ _ e))
 
 pub head-rows : (h : Header) (text list parts : ℕ) → headVerdict h text list parts ≡ Accepted → h .m ≤ 120
-head-rows h text list parts e = rows-small (h .m) (h .n) (h .nonzeros) (head-sizes h text list parts e)
+head-rows h text list parts e = rows-range (h .m) (h .n) (h .nonzeros) (head-sizes h text list parts e) .1
 
 -- answer and output after a verdict
 output-given : {v : Verdict} (new old : List ℕ) → v ≡ Accepted → outputAfter v new old ≡ new
@@ -47,12 +46,12 @@ output-kept : {v : Verdict} (word : Word) (place : ℕ) (new old : List ℕ) →
 unfolding outputAfter
 output-kept word place new old e = rw e
 
-answer-read : {v : Verdict} (h : Header) → v ≡ Accepted → answerAfter v h ≡ read-answer.Read (h .m) (h .n) (h .nonzeros) (h .integer)
-unfolding answerAfter
+answer-read : {v : Verdict} (h : Header) → v ≡ Accepted → answerRead v h ≡ read-answer.Read (h .m) (h .n) (h .nonzeros) (h .integer)
+unfolding answerRead
 answer-read h e = rw e
 
-answer-refused : {v : Verdict} (word : Word) (place : ℕ) (h : Header) → v ≡ Refused word place → answerAfter v h ≡ read-answer.Refused word place
-unfolding answerAfter
+answer-refused : {v : Verdict} (word : Word) (place : ℕ) (h : Header) → v ≡ Refused word place → answerRead v h ≡ read-answer.Refused word place
+unfolding answerRead
 answer-refused word place h e = rw e
 
 -- the parts after the cells are given
@@ -81,28 +80,28 @@ module _
   cells-are : new ≡ entriesBelow text h .cells
   cells-are = f ∙ ap (λ (x : Entries). x .cells) below
 
-  pub below-read : v ≡ Accepted → read-answer.Read (h .m) (h .n) (h .nonzeros) (h .integer) ≡ answerAfter (entriesBelow text h .verdict) h
+  pub below-read : v ≡ Accepted → read-answer.Read (h .m) (h .n) (h .nonzeros) (h .integer) ≡ answerRead (entriesBelow text h .verdict) h
   below-read a = sym (answer-read h (verdict-is ∙ a))
 
-  pub below-refused : (word : Word) (place : ℕ) → v ≡ Refused word place → read-answer.Refused word place ≡ answerAfter (entriesBelow text h .verdict) h
+  pub below-refused : (word : Word) (place : ℕ) → v ≡ Refused word place → read-answer.Refused word place ≡ answerRead (entriesBelow text h .verdict) h
   below-refused word place a = sym (answer-refused word place h (verdict-is ∙ a))
 
-  pub below-list : (list after : List ℕ) → v ≡ Accepted → after ≡ listed new (lineLimit * h .m) list → after ≡ listAfter (entriesBelow text h) h list
-  unfolding listAfter
+  pub below-list : (list after : List ℕ) → v ≡ Accepted → after ≡ listed new (lineLimit * h .m) list → after ≡ listGiven (entriesBelow text h) h list
+  unfolding listGiven
   below-list list after a l =
       l ∙ ap (λ x. listed x (lineLimit * h .m) list) cells-are ∙ sym (output-given _ list (verdict-is ∙ a))
 
-  pub below-parts : (parts after : List ℕ) → v ≡ Accepted → after ≡ givenParts h new parts → after ≡ partsAfter (entriesBelow text h) h parts
-  unfolding partsAfter
+  pub below-parts : (parts after : List ℕ) → v ≡ Accepted → after ≡ givenParts h new parts → after ≡ partsGiven (entriesBelow text h) h parts
+  unfolding partsGiven
   below-parts parts after a l =
       l ∙ ap (λ x. givenParts h x parts) cells-are ∙ sym (output-given _ parts (verdict-is ∙ a))
 
-  pub below-list-kept : (list : List ℕ) (word : Word) (place : ℕ) → v ≡ Refused word place → list ≡ listAfter (entriesBelow text h) h list
-  unfolding listAfter
+  pub below-list-kept : (list : List ℕ) (word : Word) (place : ℕ) → v ≡ Refused word place → list ≡ listGiven (entriesBelow text h) h list
+  unfolding listGiven
   below-list-kept list word place a = sym (output-kept word place _ list (verdict-is ∙ a))
 
-  pub below-parts-kept : (parts : List ℕ) (word : Word) (place : ℕ) → v ≡ Refused word place → parts ≡ partsAfter (entriesBelow text h) h parts
-  unfolding partsAfter
+  pub below-parts-kept : (parts : List ℕ) (word : Word) (place : ℕ) → v ≡ Refused word place → parts ≡ partsGiven (entriesBelow text h) h parts
+  unfolding partsGiven
   below-parts-kept parts word place a = sym (output-kept word place _ parts (verdict-is ∙ a))
 
 -- a reading: the checks before the entries, then the entries
@@ -121,19 +120,19 @@ module _
   unfolding readVerdict
   read-not word place a = then-refused _ (text-is ∙ a)
 
-  pub read-answer-is : (r : ReadAnswer) → v ≡ Accepted → r ≡ answerAfter (entriesBelow text h .verdict) h → r ≡ readCall text list parts
+  pub read-answer-is : (r : ReadAnswer) → v ≡ Accepted → r ≡ answerRead (entriesBelow text h .verdict) h → r ≡ readCall text list parts
   unfolding readCall
-  read-answer-is r a q = q ∙ ap (λ x. answerAfter x h) (sym (read-is a)) ∙ ap (answerAfter (readVerdict text list parts)) e
+  read-answer-is r a q = q ∙ ap (λ x. answerRead x h) (sym (read-is a)) ∙ ap (answerRead (readVerdict text list parts)) e
 
-  pub read-list-is : (new : List ℕ) → v ≡ Accepted → new ≡ listAfter (entriesBelow text h) h list → new ≡ readList text list parts
-  unfolding readList listAfter
+  pub read-list-is : (new : List ℕ) → v ≡ Accepted → new ≡ listGiven (entriesBelow text h) h list → new ≡ readList text list parts
+  unfolding readList listGiven
   read-list-is new a q =
       q
       ∙ ap (λ x. outputAfter x (listed (entriesBelow text h .cells) (lineLimit * h .m) list) list) (sym (read-is a))
       ∙ ap (λ x. outputAfter (readVerdict text list parts) (listed (entriesBelow text x .cells) (lineLimit * x .m) list) list) e
 
-  pub read-parts-is : (new : List ℕ) → v ≡ Accepted → new ≡ partsAfter (entriesBelow text h) h parts → new ≡ readParts text list parts
-  unfolding readParts partsAfter
+  pub read-parts-is : (new : List ℕ) → v ≡ Accepted → new ≡ partsGiven (entriesBelow text h) h parts → new ≡ readParts text list parts
+  unfolding readParts partsGiven
   read-parts-is new a q =
       q
       ∙ ap (λ x. outputAfter x (givenParts h (entriesBelow text h .cells) parts) parts) (sym (read-is a))
@@ -154,8 +153,8 @@ module _
 -- a reading in numbers: m, n, N, and F as 0 or 1
 read-by-verdict :
     (v : Verdict) (h : Header) →
-    readReply (answerAfter v h) ≡ replyAfter v (given (h .m ∷ h .n ∷ h .nonzeros ∷ bit (h .integer) ∷ []))
-unfolding readReply answerAfter replyAfter
+    readReply (answerRead v h) ≡ replyAfter v (given (h .m ∷ h .n ∷ h .nonzeros ∷ bit (h .integer) ∷ []))
+unfolding readReply answerRead replyAfter
 read-by-verdict Accepted h = refl
 read-by-verdict (Refused word place) h = refl
 

@@ -1,11 +1,11 @@
 -- Document 01, 'Texts' and 'Refusal table': the entries in text order, each 3, 5, 8, 6, with 7 for one too many or missing.
 -- Assumes nothing.
-use mathlib.Core.Bool.{Bool, true, false, not}
+use mathlib.Core.Bool.{Bool, false, not}
 use mathlib.Core.List.{List}
 use Prim.Native.Nat.{ℕ, zero, suc, _+_, _-_, _*_}
 use lib.Dec.{eqb, ltb, leb}
 use lib.ListN.{length, getD, set, replicate}
-use Rattle.counting.specs.Tests.{_and_, _or_, pick, bit}
+use Rattle.counting.specs.Tests.{_or_, pick, bit}
 use Rattle.model.specs.declared.Word.the-variants.{EntryForm, OffMatrix, Repeated, Count, BadPart}
 use Rattle.model.specs.declared.Verdict.{Verdict}
 use Rattle.model.specs.declared.Verdict.the-variants.{Accepted, Refused}

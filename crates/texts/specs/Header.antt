@@ -8,15 +8,14 @@ use lib.ListN.{length}
 use Rattle.counting.specs.Tests.{_and_, _or_}
 use Rattle.model.specs.declared.Word.the-variants.{Banner, SizeLine, TooBig, ShortBuffer}
 use Rattle.model.specs.declared.Verdict.{Verdict}
-use Rattle.model.specs.declared.Verdict.the-variants.{Accepted, Refused}
 use Rattle.model.specs.Refusal.{refuse, _then_}
 use Rattle.model.specs.Pattern.{entryBytes}
 use Rattle.model.specs.Calls.{sizesVerdict}
-use Rattle.scanning.specs.declared.Run.the-variants.{Nonblanks}
+use Rattle.scanning.specs.declared.Stretch.the-variants.{Nonblanks}
 use Rattle.texts.specs.declared.Banner as banner
 use Rattle.texts.specs.declared.Header.{Header}
 use Rattle.scanning.specs.Checks.{moved}
-use Rattle.scanning.specs.Lines.{runEnd, lineEnd, lineNext, sizeLineAt}
+use Rattle.scanning.specs.Lines.{stretchEnd, lineEnd, lineNext, sizeLineAt}
 use Rattle.scanning.specs.Words.{wordAt, sameWord, endsAt, numbersAt}
 
 -- text: at most this many bytes
@@ -50,7 +49,7 @@ abbrev pub #general : List ℕ
 -- first line, from offset 0: %%MatrixMarket (this case), then matrix coordinate F general, any letter case, F being pattern or integer
 unfoldable pub bannerAt : List ℕ → ℕ → banner.Banner
 bannerAt text end =
-    let stop = runEnd Nonblanks text 0 end in
+    let stop = stretchEnd Nonblanks text 0 end in
     let a = wordAt text stop end in
     let b = wordAt text (a .stop) end in
     let f = wordAt text (b .stop) end in

@@ -1,6 +1,5 @@
 -- Document 01, 'Texts': what reading a text gives, for any text and any slices.
 -- Assumes nothing.
-use mathlib.Core.Bool.{Bool, true, false}
 use mathlib.Core.List.{List, [], _∷_}
 use Prim.Native.Nat.{ℕ, zero, suc, _+_, _-_, _*_, _/_, _%_}
 use lib.ListN.{length, getD, set}
@@ -46,9 +45,9 @@ unfoldable pub entriesBelow : List ℕ → Header → Entries
 entriesBelow text h = entriesFrom text h (length text) (h .next) 0 noCells
 
 -- what a reading answers, after this verdict
-unfoldable pub answerAfter : Verdict → Header → ReadAnswer
-answerAfter Accepted h = read-answer.Read (h .m) (h .n) (h .nonzeros) (h .integer)
-answerAfter (Refused word place) h = read-answer.Refused word place
+unfoldable pub answerRead : Verdict → Header → ReadAnswer
+answerRead Accepted h = read-answer.Read (h .m) (h .n) (h .nonzeros) (h .integer)
+answerRead (Refused word place) h = read-answer.Refused word place
 
 -- output only where nothing is refused
 unfoldable pub outputAfter : Verdict → List ℕ → List ℕ → List ℕ
@@ -56,12 +55,12 @@ outputAfter Accepted new old = new
 outputAfter (Refused word place) new old = old
 
 -- the list's bytes after these entries
-unfoldable pub listAfter : Entries → Header → List ℕ → List ℕ
-listAfter e h list = outputAfter (e .verdict) (listed (e .cells) (lineLimit * h .m) list) list
+unfoldable pub listGiven : Entries → Header → List ℕ → List ℕ
+listGiven e h list = outputAfter (e .verdict) (listed (e .cells) (lineLimit * h .m) list) list
 
 -- the parts' bytes after these entries
-unfoldable pub partsAfter : Entries → Header → List ℕ → List ℕ
-partsAfter e h parts = outputAfter (e .verdict) (givenParts h (e .cells) parts) parts
+unfoldable pub partsGiven : Entries → Header → List ℕ → List ℕ
+partsGiven e h parts = outputAfter (e .verdict) (givenParts h (e .cells) parts) parts
 
 -- the checks before the entries, of a text and slices
 unfoldable pub textVerdict : List ℕ → List ℕ → List ℕ → Verdict
@@ -73,7 +72,7 @@ readVerdict text list parts = textVerdict text list parts then entriesBelow text
 
 -- what a reading answers
 unfoldable pub readCall : List ℕ → List ℕ → List ℕ → ReadAnswer
-readCall text list parts = answerAfter (readVerdict text list parts) (headerOf text)
+readCall text list parts = answerRead (readVerdict text list parts) (headerOf text)
 
 -- the list's bytes after a reading
 unfoldable pub readList : List ℕ → List ℕ → List ℕ → List ℕ

@@ -5,12 +5,12 @@ use model::Verdict;
 use model::Word;
 use pattern::checks::and_then;
 use pattern::checks::sizes_verdict;
-use pattern::splits::both;
+use pattern::tests::both_of;
+use pattern::tests::either_of;
 use readings::size_line;
-use scanning::Run;
+use scanning::Stretch;
 use scanning::lines::line_end;
-use scanning::lines::run_end;
-use scanning::tests::either;
+use scanning::lines::stretch_end;
 use scanning::tests::move_to;
 use scanning::tests::refuse_if;
 use scanning::tests::refuse_unless;
@@ -24,10 +24,10 @@ ghost use lib.ListN.{length};
 ghost use Rattle.texts.specs.Header.{bannerAt, headerOf, short, headVerdict};
 
 // The first line, which ends at `end`.
-pub fn banner_at(text: &[u8], end: usize) -> Banner
+fn banner_at(text: &[u8], end: usize) -> Banner
     ensures { λ r. ⌜ r ≡ bannerAt (now (text .entry)) end ⌝ }
 {
-    let stop = run_end(text, Run::Nonblanks, 0, end);
+    let stop = stretch_end(text, Stretch::Nonblanks, 0, end);
     let mark = same_word(text, 0, stop, false, b"%%MatrixMarket");
     let a = word_at(text, stop, end);
     let matrix = same_word(text, a.from, a.stop, true, b"matrix");
@@ -39,17 +39,17 @@ pub fn banner_at(text: &[u8], end: usize) -> Banner
     let g = word_at(text, f.stop, end);
     let general = same_word(text, g.from, g.stop, true, b"general");
     let last = ends_at(text, g.stop, end);
-    let object = both(mark, matrix);
-    let format = both(coordinate, either(pattern, integer));
-    let rest = both(general, last);
+    let object = both_of(mark, matrix);
+    let format = both_of(coordinate, either_of(pattern, integer));
+    let rest = both_of(general, last);
     Banner {
-        fine: both(object, both(format, rest)),
+        fine: both_of(object, both_of(format, rest)),
         integer,
     }
 }
 
 // What stands before the entries.
-pub fn header_of(text: &[u8]) -> Header
+pub(crate) fn header_of(text: &[u8]) -> Header
     ensures { λ r. ⌜ r ≡ headerOf (now (text .entry)) ⌝ }
 {
     let end = line_end(text, 0);
@@ -70,17 +70,17 @@ pub fn header_of(text: &[u8]) -> Header
 }
 
 // The list slice has under 2 × N bytes, or for integer the parts slice under N.
-pub fn is_short(header: Header, list: usize, parts: usize) -> bool
+fn is_short(header: Header, list: usize, parts: usize) -> bool
     ensures { λ r. ⌜ r ≡ short header list parts ⌝ }
 {
     let needed = wide32(header.nonzeros);
     let listed = list < 2 * needed;
-    let parted = both(header.integer, parts < needed);
-    either(listed, parted)
+    let parted = both_of(header.integer, parts < needed);
+    either_of(listed, parted)
 }
 
 // The checks before the entries: 4 for the text, 1, 2, 4, 9.
-pub fn head_verdict(header: Header, text: usize, list: usize, parts: usize) -> Verdict
+pub(crate) fn head_verdict(header: Header, text: usize, list: usize, parts: usize) -> Verdict
     ensures { λ r. ⌜ r ≡ headVerdict header text list parts ⌝ }
 {
     let place = header.at as u64;

@@ -11,8 +11,7 @@ use model::Verdict;
 ghost use mathlib.Core.Path.{_≡_};
 ghost use Prim.Native.Nat.{_*_, _≤_};
 ghost use Rattle.model.specs.Limits.{lineLimit};
-ghost use Rattle.texts.specs.Entries.{Entries};
-ghost use Rattle.texts.specs.Reading.{listed, givenParts, entriesBelow, answerAfter, listAfter, partsAfter, readCall, readList, readParts, readReply, readReplies};
+ghost use Rattle.texts.specs.Reading.{listed, givenParts, entriesBelow, answerRead, listGiven, partsGiven, readCall, readList, readParts, readReply, readReplies};
 
 // The list as output, and for integer the parts.
 fn give(cells: &[u8], header: Header, list: &mut [u8], parts: &mut [u8])
@@ -30,9 +29,9 @@ fn give(cells: &[u8], header: Header, list: &mut [u8], parts: &mut [u8])
 // The entries read, and output where none is refused.
 fn read_entries(text: &[u8], header: Header, list: &mut [u8], parts: &mut [u8]) -> ReadAnswer
     requires { ⌜ header .m ≤ 120 ⌝ }
-    ensures answer { λ r. ⌜ r ≡ answerAfter (entriesBelow (now (text .entry)) header .verdict) header ⌝ }
-    ensures list { λ r. ⌜ now (list .exit) ≡ listAfter (entriesBelow (now (text .entry)) header) header (now (list .entry)) ⌝ }
-    ensures parts { λ r. ⌜ now (parts .exit) ≡ partsAfter (entriesBelow (now (text .entry)) header) header (now (parts .entry)) ⌝ }
+    ensures answer { λ r. ⌜ r ≡ answerRead (entriesBelow (now (text .entry)) header .verdict) header ⌝ }
+    ensures list { λ r. ⌜ now (list .exit) ≡ listGiven (entriesBelow (now (text .entry)) header) header (now (list .entry)) ⌝ }
+    ensures parts { λ r. ⌜ now (parts .exit) ≡ partsGiven (entriesBelow (now (text .entry)) header) header (now (parts .entry)) ⌝ }
 {
     let mut cells = no_cells();
     let verdict = note_entries(text, header, &mut cells);

@@ -13,7 +13,7 @@ fn two(name: &[u8], listed: usize, parted: usize) {
     );
 }
 
-// The same with parts.
+// A text of two nonzeros and their parts, read into slices of these lengths.
 fn two_parted(name: &[u8], listed: usize, parted: usize) {
     read_within(
         name,

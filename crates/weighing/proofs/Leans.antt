@@ -11,21 +11,21 @@ use borrow.Author.Tests.{eqb-true, eqb-false, ne-eqb}
 use Rattle.counting.specs.Tests.{pick, bit}
 use Rattle.counting.specs.Sums.{count}
 use Rattle.counting.proofs.Joined.{no-way, pick-true, pick-false, by-test}
-use Rattle.counting.proofs.Counted.{count-most, count-eq}
+use Rattle.counting.proofs.Counted.{count-most, count-eq, count-more}
 use Rattle.model.specs.declared.Part.{Part}
 use Rattle.model.specs.declared.Part.the-variants.{Zero, One}
 use Rattle.model.specs.declared.Condition.{Condition}
 use Rattle.model.specs.declared.Condition.the-variants.{Marked, Torn, Leaning, Untouched}
 use Rattle.model.specs.Pattern.{Pattern, lines}
-use Rattle.model.specs.Split.{partNumber, samePart}
-use Rattle.model.specs.Marking.{Marking, touched, conditionFor, condition}
+use Rattle.model.specs.Split.{partNumber}
+use Rattle.model.specs.Marking.{touched, conditionFor, condition}
 use Rattle.model.specs.Bound.{saysCut, saysTorn, saysLeaning, leans, L1, L2}
 use Rattle.weighing.specs.declared.taking.Taken.{Taken}
 use Rattle.weighing.specs.declared.leaning.Kinds.{Kinds}
 use Rattle.weighing.specs.Cells.{markingIn, Cleared}
 use Rattle.weighing.specs.Taking.{TakesOpen}
 use Rattle.weighing.specs.Leaning.{leanNumber, conditionIn, LeansAll}
-use Rattle.weighing.proofs.Steps.{count-more, count-none-yet}
+use Rattle.weighing.proofs.Steps.{count-none-yet}
 
 -- what a pass over the first t lines has found, and what it made of the array
 pub record LeansTo (condition : ℕ → Condition) (t cut torn : ℕ) (lean₀ lean₁ : List ℕ) : Type 0 where
@@ -100,7 +100,7 @@ torn-small {condition} {t} k = omega (arith, k .torn-is, count-most (λ l. saysT
 
 -- the number of a condition says to which part it leans
 pub lean-number : (p : Part) (c : Condition) → eqb (leanNumber c) (partNumber p) ≡ saysLeaning p c
-unfolding leanNumber saysLeaning samePart
+unfolding saysLeaning
 lean-number Zero (Marked mark) = refl
 lean-number Zero Torn = refl
 lean-number Zero (Leaning Zero) = refl

@@ -6,6 +6,5 @@ pub mod Leans
 pub mod Tally
 pub mod Struck
 pub mod Weighed
-pub mod Whole
-pub mod Runs
-pub mod ByRuns
+pub mod Stretches
+pub mod ByStretches

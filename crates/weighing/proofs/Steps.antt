@@ -1,21 +1,11 @@
 -- Counts and tests over one number more, as loops go, and picking twice.
 -- Assumes nothing.
 use mathlib.Core.Bool.{Bool, true, false}
-use mathlib.Core.Path.{_≡_, refl, sym, _∙_, ap}
+use mathlib.Core.Path.{_≡_, refl, _∙_, ap}
 use Prim.Native.Nat.{ℕ, _+_}
-use native.Mathlib.Omega.{arith}
-use native.Mathlib.Numerals.{add-one}
-use borrow.Author.Tests.{lt-ltb, le-ltb, ltb-true, ltb-false}
-use lib.Dec.{ltb}
 use Rattle.counting.specs.Tests.{_and_, _or_, pick, bit}
 use Rattle.counting.specs.Sums.{sum, count, any}
 use Rattle.weighing.specs.Cells.{raised}
-use Rattle.counting.proofs.Joined.{by-test, bit-true, bit-false, or-left, or-right, or-fails}
-use Rattle.counting.proofs.Summed.{sum-suc}
-
--- one number more
-pub count-more : (p : ℕ → Bool) (t : ℕ) → count p (t + 1) ≡ count p t + bit (p t)
-count-more p t = ap (count p) (add-one t) ∙ sum-suc (λ s. bit (p s)) t
 
 pub count-none-yet : (p : ℕ → Bool) → count p 0 ≡ 0
 unfolding sum
@@ -24,22 +14,6 @@ count-none-yet p = refl
 pub any-none-yet : (p : ℕ → Bool) → any p 0 ≡ false
 unfolding any sum
 any-none-yet p = refl
-
--- a count that a test may raise
-or-positive : (k j : ℕ) (b : Bool) → j ≡ k + bit b → ltb 0 j ≡ ltb 0 k or b
-or-positive k j b e =
-    by-test
-    (ltb 0 k)
-    (λ h. lt-ltb 0 j (omega (arith, ltb-true 0 k h)) ∙ sym (or-left b h))
-    (λ h. by-test
-    b
-    (λ y. lt-ltb 0 j (omega (arith, bit-true b y)) ∙ sym (or-right (ltb 0 k) y))
-    (λ n. le-ltb 0 j (omega (arith, bit-false b n, ltb-false 0 k h)) ∙ sym (or-fails h n)))
-
--- some number passes among one more just where some passed before or the last passes
-pub any-more : (p : ℕ → Bool) (t : ℕ) → any p (t + 1) ≡ any p t or p t
-unfolding any
-any-more p t = or-positive (count p t) (count p (t + 1)) (p t) (count-more p t)
 
 -- picking twice
 pub pick-or : {A : Type 0} (a b : Bool) (v x : A) → pick b v (pick a v x) ≡ pick (a or b) v x

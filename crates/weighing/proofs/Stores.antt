@@ -1,42 +1,18 @@
 -- Laws of lists that are read and written by place.
 -- Assumes nothing.
 use mathlib.Core.Bool.{Bool, true, false, not}
-use mathlib.Core.List.{List, [], _∷_}
+use mathlib.Core.List.{List}
 use mathlib.Core.Path.{_≡_, refl, sym, _∙_, ap}
-use Prim.Native.Nat.{ℕ, zero, suc, _+_, _<_}
+use Prim.Native.Nat.{ℕ, _+_, _<_}
 use native.Mathlib.Omega.{arith}
 use lib.Dec.{eqb}
 use lib.ListN.{length, getD, set}
-use lib.Seq.{getD-set-same, getD-set-other}
-use borrow.Author.Tests.{eqb-true, eqb-false, eq-eqb}
+use borrow.Author.Tests.{eqb-true, eq-eqb}
 use Rattle.counting.specs.Tests.{_and_, _or_, pick, bit}
 use Rattle.weighing.specs.Cells.{raised}
-use Rattle.counting.proofs.Joined.{no-way, by-test, pick-true, pick-false, and-intro, and-fails-left, and-fails-right, or-left, or-right, or-fails, bit-true, bit-false}
+use Rattle.counting.proofs.Joined.{by-test, pick-true, pick-false, and-intro, and-fails-left, and-fails-right, or-left, or-right, or-fails, bit-true, bit-false, and-all}
+use Rattle.counting.proofs.Lists.{set-pick}
 use Rattle.weighing.proofs.Steps.{pick-both}
-
--- within a list the default does not matter
-pub getD-any : (xs : List ℕ) (i a b : ℕ) → i < length xs → getD xs i a ≡ getD xs i b
-getD-any [] i a b h = no-way (omega arith)
-getD-any (x ∷ xs) zero a b h = refl
-getD-any (x ∷ xs) (suc i) a b h = getD-any xs i a b (omega arith)
-
--- a place of a list after a store
-pub set-pick :
-    (xs : List ℕ) (i l v : ℕ) → l < length xs →
-    getD (set xs i v) l 0 ≡ pick (eqb l i) v (getD xs l 0)
-set-pick xs i l v b =
-    by-test
-    (eqb l i)
-    (λ e. let q : l ≡ i = eqb-true l i e in
-    let c : i < length xs = omega arith in
-    ap (λ (k : ℕ). getD (set xs i v) k 0) q ∙ getD-set-same xs i v 0 c ∙ sym (pick-true v (getD xs l 0) e))
-    (λ e. getD-set-other xs i l v 0 (eqb-false l i e) ∙ sym (pick-false v (getD xs l 0) e))
-
--- a test joined with one that passes
-pass : (a b : Bool) → b ≡ true → a and b ≡ a
-unfolding _and_
-pass true b h = h
-pass false b h = refl
 
 -- a store under a test that passes
 pub put-passed :
@@ -45,7 +21,7 @@ pub put-passed :
 put-passed xs ys i v test t e long l b =
     ap (λ (zs : List ℕ). getD zs l 0) e
     ∙ set-pick xs i l v (omega arith)
-    ∙ ap (λ (z : Bool). pick z v (getD xs l 0)) (sym (pass (eqb l i) test t))
+    ∙ ap (λ (z : Bool). pick z v (getD xs l 0)) (sym (and-all (eqb l i) test t))
 
 -- and under one that fails
 pub put-failed :
@@ -102,7 +78,7 @@ raise-passed size xs ys i test t e long l b =
     ap (λ (zs : List ℕ). getD zs l 0) e
     ∙ set-pick xs i l (raised (getD xs i 0)) (omega arith)
     ∙ own
-    ∙ ap (λ (z : Bool). pick z (raised (getD xs l 0)) (getD xs l 0)) (sym (pass (eqb l i) test t))
+    ∙ ap (λ (z : Bool). pick z (raised (getD xs l 0)) (getD xs l 0)) (sym (and-all (eqb l i) test t))
   where
     own : pick (eqb l i) (raised (getD xs i 0)) (getD xs l 0) ≡ pick (eqb l i) (raised (getD xs l 0)) (getD xs l 0)
     own =

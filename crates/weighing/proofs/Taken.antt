@@ -2,7 +2,7 @@
 -- Assumes nothing.
 use mathlib.Core.Bool.{Bool, true, false, not}
 use mathlib.Core.List.{List}
-use mathlib.Core.Path.{_≡_, refl, sym, _∙_, ap}
+use mathlib.Core.Path.{_≡_, sym, _∙_, ap}
 use Prim.Native.Nat.{ℕ, _+_, _≤_, _<_}
 use native.Mathlib.Omega.{arith}
 use lib.Dec.{eqb, leb}
@@ -10,7 +10,7 @@ use lib.ListN.{getD}
 use Rattle.counting.specs.Tests.{_and_, _or_, pick, bit}
 use Rattle.counting.specs.Sums.{count, any}
 use Rattle.counting.proofs.Joined.{pick-false, and-fails-left}
-use Rattle.counting.proofs.Counted.{count-most}
+use Rattle.counting.proofs.Counted.{count-most, count-more, any-more}
 use Rattle.model.specs.declared.Part.{Part}
 use Rattle.model.specs.declared.Part.the-variants.{Zero, One}
 use Rattle.model.specs.Pattern.{Pattern, patternOf, rowIn, columnIn, rowLine, columnLine, on}
@@ -19,7 +19,7 @@ use Rattle.model.specs.Marking.{Marking, takes, taken, touched, valid}
 use Rattle.weighing.specs.declared.taking.Taken.{Taken}
 use Rattle.weighing.specs.Cells.{markingIn}
 use Rattle.weighing.specs.Taking.{TakesAll, TakesOpen, validBy}
-use Rattle.weighing.proofs.Steps.{count-more, count-none-yet, any-more, any-none-yet, pick-or}
+use Rattle.weighing.proofs.Steps.{count-none-yet, any-none-yet, pick-or}
 
 module _ (m n nonzeros : ℕ) (list marks : List ℕ) where
   -- a nonzero is taken, by the bytes of its row and column

@@ -1,6 +1,6 @@
 -- Laws of the tally of lines by weight: its start, one line more, and that it holds no more lines than were passed.
 -- Assumes nothing.
-use mathlib.Core.Bool.{Bool, true, false}
+use mathlib.Core.Bool.{Bool, true}
 use mathlib.Core.List.{List}
 use mathlib.Core.Path.{_≡_, refl, sym, _∙_, ap}
 use Prim.Native.Nat.{ℕ, _+_, _≤_, _<_}
@@ -12,10 +12,10 @@ use Rattle.counting.specs.Tests.{_and_, pick, bit}
 use Rattle.counting.specs.Sums.{sum, count}
 use Rattle.counting.proofs.Joined.{no-way, by-test, both-ways, and-intro, and-left, and-right, pick-true, pick-false, bit-true, bit-false}
 use Rattle.counting.proofs.Summed.{sum-le, sum-swap}
-use Rattle.counting.proofs.Counted.{count-most, count-one, count-all}
+use Rattle.counting.proofs.Counted.{count-most, count-one, count-all, count-more}
 use Rattle.weighing.specs.Cells.{raised}
 use Rattle.weighing.specs.Striking.{linesAt, Tallied}
-use Rattle.weighing.proofs.Steps.{count-more, count-none-yet}
+use Rattle.weighing.proofs.Steps.{count-none-yet}
 use Rattle.weighing.proofs.Stores.{raised-bit}
 
 -- no line has been passed

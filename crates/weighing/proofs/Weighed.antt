@@ -8,10 +8,10 @@ use native.Mathlib.Omega.{arith}
 use borrow.Author.Tests.{ltb-true, eqb-false, eq-eqb, ne-eqb}
 use lib.Dec.{eqb, ltb}
 use lib.ListN.{getD}
-use Rattle.counting.specs.Tests.{_and_, _or_, pick, bit}
+use Rattle.counting.specs.Tests.{_and_, _or_, bit}
 use Rattle.counting.specs.Sums.{count}
 use Rattle.counting.proofs.Joined.{no-way, by-test, bit-false, and-left, and-right, and-fails-left, and-fails-right, or-left, or-right, or-fails, pick-false}
-use Rattle.counting.proofs.Counted.{count-most, count-eq, count-some, count-none}
+use Rattle.counting.proofs.Counted.{count-most, count-eq, count-some, count-none, count-more}
 use Rattle.model.specs.declared.Part.{Part}
 use Rattle.model.specs.declared.Part.the-variants.{Zero, One}
 use Rattle.model.specs.Pattern.{Pattern, Inside, patternOf, rowIn, columnIn, lines, rowLine, columnLine, on}
@@ -21,9 +21,9 @@ use Rattle.model.specs.Bound.{leans, untaken, untakenOn, atStake, conflict, L4}
 use Rattle.model.proofs.Split.Lines.{row-line-in, column-line-in}
 use Rattle.model.proofs.Bound.Cover.{cover-bounds}
 use Rattle.weighing.specs.declared.weights.Stakes.{Stakes}
-use Rattle.weighing.specs.Cells.{markingIn, raised, Cleared}
+use Rattle.weighing.specs.Cells.{markingIn, Cleared}
 use Rattle.weighing.specs.Weights.{leansIn, stakeIn, conflictIn, WeighsAll, WeighsMore}
-use Rattle.weighing.proofs.Steps.{count-more, count-none-yet}
+use Rattle.weighing.proofs.Steps.{count-none-yet}
 use Rattle.weighing.proofs.Stores.{raised-bit}
 
 module _ (m n nonzeros : ℕ) (list marks lean : List ℕ) (t row column : ℕ) (r : Bool) (a : row ≡ rowIn list t) (b : column ≡ columnIn list t) where

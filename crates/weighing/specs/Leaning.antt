@@ -1,6 +1,6 @@
 -- How lines lean, as the code answers it.
 -- Assumes nothing.
-use mathlib.Core.Bool.{Bool, not}
+use mathlib.Core.Bool.{not}
 use mathlib.Core.List.{List}
 use mathlib.Core.Path.{_≡_}
 use Prim.Native.Nat.{ℕ, _≤_, _<_}
@@ -16,7 +16,7 @@ use Rattle.weighing.specs.declared.leaning.Kinds.{Kinds}
 use Rattle.weighing.specs.Cells.{markingIn}
 
 -- the part that a line leans to, as a number; 2 for a line that does not lean
-unfoldable pub leanNumber : Condition → ℕ
+abbrev pub leanNumber : Condition → ℕ
 leanNumber (Marked mark) = 2
 leanNumber Torn = 2
 leanNumber (Leaning Zero) = 0

@@ -1,4 +1,4 @@
--- The pass over the nonzeros by runs, nonzeros that follow one another in one row: what it has found, as the code hands it on.
+-- The pass over the nonzeros by stretches, nonzeros that follow one another in one row: what it has found, as the code hands it on.
 -- Assumes nothing.
 use mathlib.Core.Bool.{Bool}
 use mathlib.Core.List.{List}
@@ -21,7 +21,7 @@ unfoldable pub columnIs : List ℕ → ℕ → ℕ → ℕ → Bool
 columnIs list m l t = eqb l (m + columnIn list t)
 
 -- the nonzeros from one number to the next are in a row
-pub record RunTo (list : List ℕ) (nonzeros row start next : ℕ) : Type 0 where
+pub record StretchTo (list : List ℕ) (nonzeros row start next : ℕ) : Type 0 where
   pub from : start ≤ next
   pub within : next ≤ nonzeros
   pub in-row : (s : ℕ) → start ≤ s → s < next → rowIn list s ≡ row

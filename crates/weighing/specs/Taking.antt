@@ -21,7 +21,7 @@ pub record TakesAll (P : Pattern) (μ : Marking) (r : Taken) (zero₀ one₀ zer
   pub by-zero : (l : ℕ) → l < 512 → getD zero₁ l 0 ≡ pick (touched P μ Zero l) 1 (getD zero₀ l 0)
   pub by-one : (l : ℕ) → l < 512 → getD one₁ l 0 ≡ pick (touched P μ One l) 1 (getD one₀ l 0)
 
--- the same, with the two arrays known only at lines that are not marked 0 or 1
+-- what the pass row by row answers: as `TakesAll`, with the two arrays known only at lines that are not marked 0 or 1
 pub record TakesOpen (P : Pattern) (μ : Marking) (r : Taken) (zero₀ one₀ zero₁ one₁ : List ℕ) : Type 0 where
   pub zero-is : r .zero ≡ taken P μ Zero
   pub one-is : r .one ≡ taken P μ One

@@ -1,12 +1,12 @@
 // How lines lean: one pass over the lines.
-use crate::cells::bit_of;
 use crate::cells::byte_of;
-use crate::cells::mark_at;
+use crate::cells::line_mark;
 use crate::cells::put_at;
 use model::Condition;
 use model::Mark;
 use model::Part;
 use pattern::reading::wide;
+use pattern::tests::bit_of;
 ghost use mathlib.Core.Bool.{not};
 ghost use mathlib.Core.Path.{_≡_};
 ghost use Prim.Native.Nat.{_+_};
@@ -22,7 +22,7 @@ pub struct Kinds {
 }
 
 // The condition of a line, from its mark and whether it has nonzeros taken by 0 and by 1.
-pub fn condition_of(mark: u8, by_zero: u8, by_one: u8) -> Condition
+fn condition_of(mark: u8, by_zero: u8, by_one: u8) -> Condition
     ensures { λ r. ⌜ r ≡ conditionFor mark (not (eqb «by_zero» 0)) (not (eqb «by_one» 0)) ⌝ }
 {
     match mark {
@@ -48,7 +48,7 @@ pub fn condition_of(mark: u8, by_zero: u8, by_one: u8) -> Condition
 }
 
 // The number of a line that leans: 0 or 1, the part that it leans to; 2 for any other line.
-pub fn lean_number(condition: Condition) -> u8
+fn lean_number(condition: Condition) -> u8
     ensures { λ r. ⌜ r ≡ leanNumber condition ⌝ }
 {
     match condition {
@@ -63,7 +63,7 @@ pub fn lean_number(condition: Condition) -> u8
 }
 
 // The line is marked cut.
-pub fn is_cut(condition: Condition) -> bool
+fn is_cut(condition: Condition) -> bool
     ensures { λ r. ⌜ r ≡ saysCut condition ⌝ }
 {
     match condition {
@@ -78,7 +78,7 @@ pub fn is_cut(condition: Condition) -> bool
 }
 
 // The line is torn.
-pub fn is_torn(condition: Condition) -> bool
+fn is_torn(condition: Condition) -> bool
     ensures { λ r. ⌜ r ≡ saysTorn condition ⌝ }
 {
     match condition {
@@ -90,7 +90,7 @@ pub fn is_torn(condition: Condition) -> bool
 }
 
 // The condition of a line, from three arrays.
-pub fn condition_at(
+fn condition_at(
     marks: &[u8; 512],
     by_zero: &[u8; 512],
     by_one: &[u8; 512],
@@ -98,7 +98,7 @@ pub fn condition_at(
 ) -> Condition
     ensures { λ r. ⌜ r ≡ conditionIn (now (marks .entry)) (now («by_zero» .entry)) (now («by_one» .entry)) line ⌝ }
 {
-    let mark = mark_at(marks, line);
+    let mark = line_mark(marks, line);
     let zero = byte_of(by_zero, line);
     let one = byte_of(by_one, line);
     condition_of(mark, zero, one)

@@ -1,7 +1,5 @@
-// What a marking takes, run by run: a run is the nonzeros that follow one another in one row, and the row's mark decides what they do.
-use crate::cells::bit_of;
-use crate::cells::either_of;
-use crate::cells::mark_at;
+// What a marking takes, stretch by stretch: a stretch is the nonzeros that follow one another in one row, and the row's mark decides what they do.
+use crate::cells::line_mark;
 use crate::cells::put_at;
 use crate::cells::put_if;
 use crate::reading::column_at;
@@ -10,7 +8,9 @@ use crate::reading::row_at;
 use crate::taking::Taken;
 use crate::taking::take_all;
 use pattern::reading::wide;
-ghost use mathlib.Core.Bool.{Bool, true, false};
+use pattern::tests::bit_of;
+use pattern::tests::either_of;
+ghost use mathlib.Core.Bool.{false};
 ghost use mathlib.Core.List.{List};
 ghost use mathlib.Core.Path.{_≡_};
 ghost use Prim.Native.Nat.{ℕ, _+_, _*_, _≤_, _<_};
@@ -21,22 +21,22 @@ ghost use Rattle.counting.specs.Sums.{count};
 ghost use Rattle.model.specs.Pattern.{patternOf, rowIn, columnIn};
 ghost use Rattle.weighing.specs.Cells.{markingIn};
 ghost use Rattle.weighing.specs.Taking.{TakesOpen};
-ghost use Rattle.weighing.specs.Rows.{columnHas, columnIs, RunTo, OpenTo};
+ghost use Rattle.weighing.specs.Rows.{columnHas, columnIs, StretchTo, OpenTo};
 
-// The nonzero after a run, and how many of its columns are marked 0 and 1.
+// The nonzero after a stretch, and how many of its columns are marked 0 and 1.
 struct Columns {
     next: u16,
     zero: u16,
     one: u16,
 }
 
-// The nonzero after a run, and how many of its columns have one mark.
+// The nonzero after a stretch, and how many of its columns have one mark.
 struct Crossed {
     next: u16,
     others: u16,
 }
 
-// The nonzero after a run, and what is taken up to it.
+// The nonzero after a stretch, and what is taken up to it.
 struct Reached {
     next: u16,
     zero: u16,
@@ -65,10 +65,17 @@ fn column_line(list: &[u8], m: u8, t: u16) -> usize
     wide(m) + wide(column)
 }
 
-// A run in a row not marked 0 or 1: its columns marked 0 and 1.
-fn open_run(m: u8, nonzeros: u16, list: &[u8], marks: &[u8; 512], row: u8, start: u16) -> Columns
+// A stretch in a row not marked 0 or 1: its columns marked 0 and 1.
+fn open_stretch(
+    m: u8,
+    nonzeros: u16,
+    list: &[u8],
+    marks: &[u8; 512],
+    row: u8,
+    start: u16,
+) -> Columns
     requires { ⌜ (2 * nonzeros ≤ length (now list)) × (start ≤ nonzeros) ⌝ }
-    ensures { λ r. ⌜ RunTo (now (list .entry)) nonzeros row start (r .next)
+    ensures { λ r. ⌜ StretchTo (now (list .entry)) nonzeros row start (r .next)
         × (ltb (r .next) nonzeros and eqb (rowIn (now (list .entry)) (r .next)) row ≡ false)
         × (r .zero + start ≤ r .next) × (r .one + start ≤ r .next)
         × (r .zero + count (columnHas (now (list .entry)) m (markingIn (now (marks .entry))) 0) start
@@ -81,7 +88,7 @@ fn open_run(m: u8, nonzeros: u16, list: &[u8], marks: &[u8; 512], row: u8, start
     let mut one: u16 = 0;
     while in_row(list, nonzeros, t, row) {
         let column = column_line(list, m, t);
-        let mark = mark_at(marks, column);
+        let mark = line_mark(marks, column);
         zero = zero + bit_of(mark == 0);
         one = one + bit_of(mark == 1);
         t = t + 1;
@@ -89,8 +96,8 @@ fn open_run(m: u8, nonzeros: u16, list: &[u8], marks: &[u8; 512], row: u8, start
     Columns { next: t, zero, one }
 }
 
-// A run in a row marked with a part: sets 1 at its columns, and counts those marked with the other part.
-fn marked_run(
+// A stretch in a row marked with a part: sets 1 at its columns, and counts those marked with the other part.
+fn marked_stretch(
     m: u8,
     nonzeros: u16,
     list: &[u8],
@@ -101,7 +108,7 @@ fn marked_run(
     lines: &mut [u8; 512],
 ) -> Crossed
     requires { ⌜ (2 * nonzeros ≤ length (now list)) × (start ≤ nonzeros) ⌝ }
-    ensures { λ r. ⌜ RunTo (now (list .entry)) nonzeros row start (r .next)
+    ensures { λ r. ⌜ StretchTo (now (list .entry)) nonzeros row start (r .next)
         × (ltb (r .next) nonzeros and eqb (rowIn (now (list .entry)) (r .next)) row ≡ false)
         × (r .others + start ≤ r .next)
         × (r .others + count (columnHas (now (list .entry)) m (markingIn (now (marks .entry))) other) start
@@ -113,7 +120,7 @@ fn marked_run(
     let mut others: u16 = 0;
     while in_row(list, nonzeros, t, row) {
         let column = column_line(list, m, t);
-        let mark = mark_at(marks, column);
+        let mark = line_mark(marks, column);
         put_at(lines, column, 1);
         others = others + bit_of(mark == other);
         t = t + 1;
@@ -121,7 +128,7 @@ fn marked_run(
     Crossed { next: t, others }
 }
 
-// What is taken up to the end of the run that starts at a nonzero, from what is taken before it.
+// What is taken up to the end of the stretch that starts at a nonzero, from what is taken before it.
 fn take_row(
     m: u8,
     nonzeros: u16,
@@ -143,35 +150,35 @@ fn take_row(
         zero₀ one₀ (now («by_zero» .exit)) (now («by_one» .exit))) ⌝ }
 {
     let line = wide(row);
-    let mark = mark_at(marks, line);
+    let mark = line_mark(marks, line);
     let zero = taken.zero;
     let one = taken.one;
     let both = taken.both;
     if mark == 0 {
-        let run = marked_run(m, nonzeros, list, marks, row, start, 1, by_zero);
+        let stretch = marked_stretch(m, nonzeros, list, marks, row, start, 1, by_zero);
         return Reached {
-            next: run.next,
-            zero: zero + (run.next - start),
-            one: one + run.others,
-            both: either_of(both, 0 < run.others),
+            next: stretch.next,
+            zero: zero + (stretch.next - start),
+            one: one + stretch.others,
+            both: either_of(both, 0 < stretch.others),
         };
     }
     if mark == 1 {
-        let run = marked_run(m, nonzeros, list, marks, row, start, 0, by_one);
+        let stretch = marked_stretch(m, nonzeros, list, marks, row, start, 0, by_one);
         return Reached {
-            next: run.next,
-            zero: zero + run.others,
-            one: one + (run.next - start),
-            both: either_of(both, 0 < run.others),
+            next: stretch.next,
+            zero: zero + stretch.others,
+            one: one + (stretch.next - start),
+            both: either_of(both, 0 < stretch.others),
         };
     }
-    let run = open_run(m, nonzeros, list, marks, row, start);
-    put_if(by_zero, line, 0 < run.zero, 1);
-    put_if(by_one, line, 0 < run.one, 1);
+    let stretch = open_stretch(m, nonzeros, list, marks, row, start);
+    put_if(by_zero, line, 0 < stretch.zero, 1);
+    put_if(by_one, line, 0 < stretch.one, 1);
     Reached {
-        next: run.next,
-        zero: zero + run.zero,
-        one: one + run.one,
+        next: stretch.next,
+        zero: zero + stretch.zero,
+        one: one + stretch.one,
         both,
     }
 }
@@ -197,11 +204,11 @@ fn take_full(
     while t < nonzeros {
         let row = row_at(list, t);
         let taken = Taken { zero, one, both };
-        let run = take_row(m, nonzeros, list, marks, row, t, taken, by_zero, by_one);
-        zero = run.zero;
-        one = run.one;
-        both = run.both;
-        t = run.next;
+        let stretch = take_row(m, nonzeros, list, marks, row, t, taken, by_zero, by_one);
+        zero = stretch.zero;
+        one = stretch.one;
+        both = stretch.both;
+        t = stretch.next;
     }
     Taken { zero, one, both }
 }

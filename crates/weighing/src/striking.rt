@@ -1,12 +1,13 @@
 // The strike-out of L3: leaning lines are counted by their untaken nonzeros, and struck most first.
-use crate::cells::both_of;
 use crate::cells::byte_of;
 use crate::cells::raise;
 use crate::cells::word_or;
+use pattern::reading::less16;
 use pattern::reading::wide;
 use pattern::reading::wide16;
+use pattern::tests::both_of;
 ghost use mathlib.Core.Path.{_≡_};
-ghost use Prim.Native.Nat.{ℕ, _+_, _-_, _≤_, _<_};
+ghost use Prim.Native.Nat.{ℕ, _+_, _-_, _<_};
 ghost use lib.Dec.{eqb, ltb, leb};
 ghost use lib.ListN.{getD, replicate};
 ghost use Rattle.counting.specs.Tests.{_and_, pick};
@@ -21,21 +22,21 @@ pub struct Struck {
 }
 
 // No lines of any weight.
-fn no_lines() -> [u16; 2001]
+fn no_tally() -> [u16; 2001]
     ensures { λ r. ⌜ ((x : ℕ) → x < 2001 → getD r x 0 ≡ 0) ⌝ }
 {
     [0u16; 2001]
 }
 
 // The weight of a line.
-pub fn weight_of(weights: &[u16; 512], line: usize) -> u16
+fn weight_of(weights: &[u16; 512], line: usize) -> u16
     ensures { λ r. ⌜ r ≡ getD (now (weights .entry)) line 0 ⌝ }
 {
     word_or(weights, line)
 }
 
 // The number of lines of a weight.
-fn lines_of(counts: &[u16; 2001], weight: u16) -> u16
+fn lines_with(counts: &[u16; 2001], weight: u16) -> u16
     ensures { λ r. ⌜ r ≡ getD (now (counts .entry)) weight 0 ⌝ }
 {
     word_or(counts, wide16(weight))
@@ -88,15 +89,8 @@ fn tally(
     top
 }
 
-// A difference that ends at 0.
-fn less(s: u16, x: u16) -> u16
-    ensures { λ r. ⌜ r ≡ s - x ⌝ }
-{
-    if x <= s { s - x } else { 0 }
-}
-
 // Some lines are left, and s is above the room.
-fn goes_on(lines: u16, s: u16, room: u64) -> bool
+fn strikes_on(lines: u16, s: u16, room: u64) -> bool
     ensures { λ r. ⌜ r ≡ ltb 0 lines and ltb room s ⌝ }
 {
     both_of(0 < lines, room < s as u64)
@@ -109,8 +103,8 @@ fn strike_weight(weight: u16, lines: u16, s: u16, room: u64) -> Struck
     let mut left = s;
     let mut struck: u16 = 0;
     let mut k = lines;
-    while goes_on(k, left, room) {
-        left = less(left, weight);
+    while strikes_on(k, left, room) {
+        left = less16(left, weight);
         struck = struck + 1;
         k = k - 1;
     }
@@ -128,9 +122,9 @@ fn strike_down(counts: &[u16; 2001], top: u16, s: u16, room: u64) -> u16
     let mut left = s;
     let mut struck: u16 = 0;
     let mut k = top + 1;
-    while goes_on(k, left, room) {
+    while strikes_on(k, left, room) {
         k = k - 1;
-        let lines = lines_of(counts, k);
+        let lines = lines_with(counts, k);
         let step = strike_weight(k, lines, left, room);
         left = step.left;
         struck = struck + step.lines;
@@ -153,7 +147,7 @@ pub fn strike(
     if s as u64 <= room {
         return 0;
     }
-    let mut counts = no_lines();
+    let mut counts = no_tally();
     let top = tally(m, n, lean, weights, part, &mut counts);
     strike_down(&counts, top, s, room)
 }

@@ -1,13 +1,13 @@
 // What a marking takes: one pass over the nonzeros.
-use crate::cells::bit_of;
-use crate::cells::both_of;
-use crate::cells::either_of;
-use crate::cells::mark_at;
+use crate::cells::line_mark;
 use crate::cells::put_if;
 use pattern::reading::column_of;
 use pattern::reading::row_of;
 use pattern::reading::wide;
-ghost use mathlib.Core.Bool.{Bool, true, false};
+use pattern::tests::bit_of;
+use pattern::tests::both_of;
+use pattern::tests::either_of;
+ghost use mathlib.Core.Bool.{false};
 ghost use mathlib.Core.Path.{_≡_};
 ghost use Prim.Native.Nat.{ℕ, _+_, _<_};
 ghost use lib.Dec.{eqb};
@@ -28,8 +28,8 @@ pub struct Taken {
 pub fn takes_by(marks: &[u8; 512], m: u8, row: u8, column: u8, part: u8) -> bool
     ensures { λ r. ⌜ r ≡ eqb (markingIn (now (marks .entry)) row) part or eqb (markingIn (now (marks .entry)) (m + column)) part ⌝ }
 {
-    let at_row = mark_at(marks, wide(row));
-    let at_column = mark_at(marks, wide(m) + wide(column));
+    let at_row = line_mark(marks, wide(row));
+    let at_column = line_mark(marks, wide(m) + wide(column));
     either_of(at_row == part, at_column == part)
 }
 
@@ -43,7 +43,7 @@ fn touch(lines: &mut [u8; 512], m: u8, row: u8, column: u8, test: bool)
 }
 
 // What a marking takes, with 1 set at each line that has a nonzero taken by 0, and by 1.
-pub fn take_all(
+pub(crate) fn take_all(
     m: u8,
     n: u8,
     nonzeros: u16,

@@ -1,9 +1,6 @@
 // What is at stake: the untaken nonzeros of leaning lines, of each line, and the conflicts, in one pass over the nonzeros.
-use crate::cells::bit_of;
-use crate::cells::both_of;
 use crate::cells::byte_of;
-use crate::cells::either_of;
-use crate::cells::mark_at;
+use crate::cells::line_mark;
 use crate::cells::raise;
 use crate::reading::column_at;
 use crate::reading::is_full;
@@ -12,6 +9,9 @@ use crate::taking::takes_by;
 use pattern::reading::column_of;
 use pattern::reading::row_of;
 use pattern::reading::wide;
+use pattern::tests::bit_of;
+use pattern::tests::both_of;
+use pattern::tests::either_of;
 ghost use mathlib.Core.Bool.{not};
 ghost use mathlib.Core.Path.{_≡_};
 ghost use Prim.Native.Nat.{ℕ, _+_, _*_, _≤_, _<_};
@@ -30,14 +30,14 @@ pub struct Stakes {
 }
 
 // Sets every weight to 0.
-pub fn clear(weights: &mut [u16; 512])
+fn clear(weights: &mut [u16; 512])
     ensures { λ _. ⌜ Cleared (now (weights .exit)) ⌝ }
 {
     *weights = [0u16; 512];
 }
 
 // A nonzero is untaken.
-pub fn untaken_by(marks: &[u8; 512], m: u8, row: u8, column: u8) -> bool
+fn untaken_by(marks: &[u8; 512], m: u8, row: u8, column: u8) -> bool
     ensures { λ r. ⌜ r ≡ not
         ((eqb (markingIn (now (marks .entry)) row) 0 or eqb (markingIn (now (marks .entry)) (m + column)) 0)
         or (eqb (markingIn (now (marks .entry)) row) 1 or eqb (markingIn (now (marks .entry)) (m + column)) 1)) ⌝ }
@@ -48,14 +48,14 @@ pub fn untaken_by(marks: &[u8; 512], m: u8, row: u8, column: u8) -> bool
 }
 
 // What a nonzero adds to s: 1 if its row or its column leans, and no more if both do.
-pub fn once(row: bool, column: bool) -> u16
+fn once(row: bool, column: bool) -> u16
     ensures { λ r. ⌜ r ≡ bit (row or column) ⌝ }
 {
     bit_of(row) + bit_of(both_of(column, !row))
 }
 
 // What a nonzero adds to s of a part: 1 if it is untaken and one of its lines leans to the part.
-pub fn stake_by(lean: &[u8; 512], m: u8, row: u8, column: u8, part: u8, free: bool) -> u16
+fn stake_by(lean: &[u8; 512], m: u8, row: u8, column: u8, part: u8, free: bool) -> u16
     ensures { λ r. ⌜ r ≡ bit (free and (eqb (getD (now (lean .entry)) row 0) part or eqb (getD (now (lean .entry)) (m + column) 0) part)) ⌝ }
 {
     let at_row = byte_of(lean, wide(row));
@@ -67,7 +67,7 @@ pub fn stake_by(lean: &[u8; 512], m: u8, row: u8, column: u8, part: u8, free: bo
 }
 
 // The row and the column of a nonzero lean to different parts.
-pub fn conflict_by(lean: &[u8; 512], m: u8, row: u8, column: u8) -> bool
+fn conflict_by(lean: &[u8; 512], m: u8, row: u8, column: u8) -> bool
     ensures { λ r. ⌜ r ≡
         (eqb (getD (now (lean .entry)) row 0) 0 and eqb (getD (now (lean .entry)) (m + column) 0) 1)
         or (eqb (getD (now (lean .entry)) row 0) 1 and eqb (getD (now (lean .entry)) (m + column) 0) 0) ⌝ }
@@ -81,7 +81,7 @@ pub fn conflict_by(lean: &[u8; 512], m: u8, row: u8, column: u8) -> bool
 }
 
 // One more at a line where a test passes.
-pub fn raise_if(weights: &mut [u16; 512], at: usize, test: bool)
+fn raise_if(weights: &mut [u16; 512], at: usize, test: bool)
     ensures { λ _. ⌜ ((l : ℕ) → l < 512 →
         getD (now (weights .exit)) l 0 ≡ pick (eqb l at and test) (raised (getD (now (weights .entry)) l 0)) (getD (now (weights .entry)) l 0)) ⌝ }
 {
@@ -102,7 +102,7 @@ fn weigh(weights: &mut [u16; 512], m: u8, row: u8, column: u8, test: bool)
 }
 
 // What is at stake, with each line's untaken nonzeros as its weight.
-pub fn weigh_all(
+fn weigh_all(
     m: u8,
     n: u8,
     nonzeros: u16,
@@ -143,7 +143,7 @@ fn is_idle(marks: &[u8; 512], lean: &[u8; 512], row: u8) -> bool
     ensures { λ r. ⌜ r ≡ ltb (markingIn (now (marks .entry)) row) 2 and ltb 1 (getD (now (lean .entry)) row 0) ⌝ }
 {
     let line = wide(row);
-    let mark = mark_at(marks, line);
+    let mark = line_mark(marks, line);
     let leaning = byte_of(lean, line);
     both_of(mark < 2, 1 < leaning)
 }
@@ -189,7 +189,7 @@ fn weigh_one(
     }
 }
 
-// The same, for a list that holds every nonzero.
+// What is at stake, with each line's untaken nonzeros as its weight, for a list that holds every nonzero.
 fn weigh_full(
     m: u8,
     n: u8,

@@ -3,7 +3,7 @@
 use mathlib.Core.Bool.{Bool, true, false}
 use mathlib.Core.List.{List, [], _∷_}
 use mathlib.Core.Path.{_≡_, refl, sym, _∙_, ap}
-use Prim.Native.Nat.{ℕ, _+_, _*_, _≤_, _<_}
+use Prim.Native.Nat.{ℕ, _*_, _≤_, _<_}
 use native.Mathlib.Omega.{arith}
 use lib.Dec.{ltb}
 use lib.ListN.{length}
@@ -15,15 +15,14 @@ use Rattle.model.specs.declared.Word.{Word}
 use Rattle.model.specs.declared.Word.the-variants.{ShortBuffer}
 use Rattle.model.specs.declared.Verdict.{Verdict}
 use Rattle.model.specs.declared.Verdict.the-variants.{Accepted, Refused}
-use Rattle.model.specs.Refusal.{given, replyAfter, refuse, _then_}
+use Rattle.model.specs.Refusal.{given, replyAfter, refuse, _then_, eachVerdict}
 use Rattle.model.specs.Calls.{sizesVerdict}
-use Rattle.pattern.specs.Checks.{eachVerdict}
-use Rattle.pattern.proofs.Verdicts.{then-accepted, then-refused, then-first, nonzeros-small}
+use Rattle.model.proofs.Theorems.Checks.{then-accepted, then-refused, then-first, nonzeros-small}
 use Rattle.writing.specs.declared.Figures.{Figures}
 use Rattle.writing.specs.declared.WriteAnswer.{WriteAnswer}
 use Rattle.writing.specs.declared.WriteAnswer.the-variants as write-answer
 use Rattle.writing.specs.Written.{Puts, textOf}
-use Rattle.writing.specs.Writing.{nonzeroVerdict, writeVerdict, lengthAnswer, textOut, answerAfter, outAfter, writeCall, writeOut, writeReply, writeReplies}
+use Rattle.writing.specs.Writing.{nonzeroVerdict, writeVerdict, lengthAnswer, textOut, answerWritten, outWritten, writeCall, writeOut, writeReply, writeReplies}
 
 -- the checks one after another
 module _ (m n nonzeros : ℕ) (list parts : List ℕ) where
@@ -73,27 +72,27 @@ module _ (text out : List ℕ) where
 module _ (m n nonzeros : ℕ) (list parts : List ℕ) (f : Figures) (out : List ℕ) (v : Verdict) (e : v ≡ writeVerdict m n nonzeros list parts) where
   pub write-answer-is :
       (r : WriteAnswer) → v ≡ Accepted → r ≡ lengthAnswer (textOf m n nonzeros list parts f) out → r ≡ writeCall m n nonzeros list parts f out
-  unfolding writeCall answerAfter
-  write-answer-is r a q = q ∙ sym (ap (λ x. answerAfter x (textOf m n nonzeros list parts f) out) (sym e ∙ a))
+  unfolding writeCall answerWritten
+  write-answer-is r a q = q ∙ sym (ap (λ x. answerWritten x (textOf m n nonzeros list parts f) out) (sym e ∙ a))
 
   pub write-out-is :
       (new : List ℕ) → v ≡ Accepted → new ≡ textOut (textOf m n nonzeros list parts f) out → new ≡ writeOut m n nonzeros list parts f out
-  unfolding writeOut outAfter
-  write-out-is new a q = q ∙ sym (ap (λ x. outAfter x (textOf m n nonzeros list parts f) out) (sym e ∙ a))
+  unfolding writeOut outWritten
+  write-out-is new a q = q ∙ sym (ap (λ x. outWritten x (textOf m n nonzeros list parts f) out) (sym e ∙ a))
 
   pub write-refused : (word : Word) (place : ℕ) → v ≡ Refused word place → write-answer.Refused word place ≡ writeCall m n nonzeros list parts f out
-  unfolding writeCall answerAfter
-  write-refused word place a = sym (ap (λ x. answerAfter x (textOf m n nonzeros list parts f) out) (sym e ∙ a))
+  unfolding writeCall answerWritten
+  write-refused word place a = sym (ap (λ x. answerWritten x (textOf m n nonzeros list parts f) out) (sym e ∙ a))
 
   pub write-out-kept : (word : Word) (place : ℕ) → v ≡ Refused word place → out ≡ writeOut m n nonzeros list parts f out
-  unfolding writeOut outAfter
-  write-out-kept word place a = sym (ap (λ x. outAfter x (textOf m n nonzeros list parts f) out) (sym e ∙ a))
+  unfolding writeOut outWritten
+  write-out-kept word place a = sym (ap (λ x. outWritten x (textOf m n nonzeros list parts f) out) (sym e ∙ a))
 
 -- a writing that answers a length has put its text; one that is refused has put nothing
 left-by :
-    (v : Verdict) (text out : List ℕ) (len : ℕ) → answerAfter v text out ≡ write-answer.Written len →
-    Puts out 0 text (outAfter v text out) len
-unfolding answerAfter outAfter lengthAnswer textOut
+    (v : Verdict) (text out : List ℕ) (len : ℕ) → answerWritten v text out ≡ write-answer.Written len →
+    Puts out 0 text (outWritten v text out) len
+unfolding answerWritten outWritten lengthAnswer textOut
 left-by (Refused word place) text out len e = never (cc)
 left-by Accepted text out len e =
     by-test
@@ -105,9 +104,9 @@ left-by Accepted text out len e =
     record { after = omega arith; bytes = pick-false out (sets out 0 text) b })
 
 kept-by :
-    (v : Verdict) (text out : List ℕ) (word : Word) (place : ℕ) → answerAfter v text out ≡ write-answer.Refused word place →
-    outAfter v text out ≡ out
-unfolding answerAfter outAfter lengthAnswer textOut
+    (v : Verdict) (text out : List ℕ) (word : Word) (place : ℕ) → answerWritten v text out ≡ write-answer.Refused word place →
+    outWritten v text out ≡ out
+unfolding answerWritten outWritten lengthAnswer textOut
 kept-by (Refused w p) text out word place e = refl
 kept-by Accepted text out word place e =
     by-test
@@ -140,9 +139,9 @@ length-replies false len = refl
 
 write-by-verdict :
     (v : Verdict) (text out : List ℕ) →
-    writeReply (answerAfter v text out)
+    writeReply (answerWritten v text out)
     ≡ replyAfter (v then refuse (ltb (length out) (length text)) ShortBuffer 0) (given (length text ∷ []))
-unfolding writeReply answerAfter lengthAnswer replyAfter _then_
+unfolding writeReply answerWritten lengthAnswer replyAfter _then_
 write-by-verdict Accepted text out = length-replies (ltb (length out) (length text)) (length text)
 write-by-verdict (Refused word place) text out = refl
 

@@ -3,39 +3,38 @@
 use mathlib.Core.Bool.{Bool, true, false, not}
 use mathlib.Core.List.{List, [], _∷_, _++_, append-assoc}
 use mathlib.Core.Path.{_≡_, refl, sym, _∙_, ap}
-use Prim.Native.Nat.{ℕ, zero, suc, _+_, _-_, _^_, _≤_, _<_}
+use Prim.Native.Nat.{ℕ, _+_, _-_, _^_, _<_}
 use native.Mathlib.Omega.{arith}
 use lib.Dec.{eqb, ltb}
 use lib.ListN.{length, getD, length-append}
-use borrow.Author.Tests.{ltb-true, ltb-false, not-true, lt-ltb, le-ltb, eq-eqb, ne-eqb}
+use borrow.Author.Tests.{ltb-true, not-true, eq-eqb}
 use Rattle.counting.specs.Tests.{_and_, _or_, pick}
-use Rattle.counting.proofs.Joined.{by-test, no-way, and-left, and-right, and-intro, and-fails-left, and-fails-right, pick-true, pick-false}
-use Rattle.scanning.specs.declared.Class.the-variants.{Digit, Blank, LineEnd}
-use Rattle.scanning.specs.declared.Run.{Run}
-use Rattle.scanning.specs.declared.Run.the-variants.{Line, Blanks, Nonblanks, Digits}
-use Rattle.scanning.specs.declared.Numbers.{Numbers}
-use Rattle.scanning.specs.Classes.{between, classOf, goesOn, isBlank}
-use Rattle.scanning.specs.Lines.{runsAt, runEnd, lineStop, hasReturn, lineEnd, lineNext, emptyLine}
+use Rattle.counting.proofs.Joined.{by-test, and-left, and-right, and-intro, and-fails-left, and-fails-right}
+use Rattle.scanning.specs.declared.Class.the-variants.{Blank, LineEnd}
+use Rattle.scanning.specs.declared.Stretch.{Stretch}
+use Rattle.scanning.specs.declared.Stretch.the-variants.{Line, Blanks, Nonblanks}
+use Rattle.scanning.specs.Classes.{between, classOf, stretchesOver, isBlank}
+use Rattle.scanning.specs.Lines.{stretchesAt, stretchEnd, lineStop, hasReturn, lineEnd, lineNext}
 use Rattle.scanning.specs.Words.{numberAt, endsAt, threeAt}
-use Rattle.scanning.proofs.Scans.{run-here, run-over, run-on, end-without, next-more}
+use Rattle.scanning.proofs.Scans.{stretch-here, stretch-over, stretch-on, end-without, next-more}
 use Rattle.writing.specs.Written.{decimals, numberText, sizesText}
-use Rattle.writing.proofs.Held.{Holds, holds-left, holds-right, holds-as, every, every-append, every-at, run-whole, digit-class, decimals-every, decimals-some, number-back}
+use Rattle.writing.proofs.Held.{Holds, holds-left, holds-right, every, every-at, run-whole, digit-class, decimals-every, decimals-some, number-back}
 
 -- the bytes of a line: neither LF nor CR
 unfoldable pub plain : ℕ → Bool
-plain b = goesOn Line (classOf b) and not (eqb b 13)
+plain b = stretchesOver Line (classOf b) and not (eqb b 13)
 
-line-goes : (bytes : List ℕ) → every plain bytes ≡ true → every (λ b. goesOn Line (classOf b)) bytes ≡ true
+line-goes : (bytes : List ℕ) → every plain bytes ≡ true → every (λ b. stretchesOver Line (classOf b)) bytes ≡ true
 unfolding every plain
 line-goes [] h = refl
 line-goes (b ∷ bytes) h =
     and-intro
-    (and-left (goesOn Line (classOf b)) (not (eqb b 13)) (and-left (plain b) (every plain bytes) h))
+    (and-left (stretchesOver Line (classOf b)) (not (eqb b 13)) (and-left (plain b) (every plain bytes) h))
     (line-goes bytes (and-right (plain b) (every plain bytes) h))
 
 plain-return : (b : ℕ) → plain b ≡ true → eqb b 13 ≡ false
 unfolding plain
-plain-return b h = not-true (eqb b 13) (and-right (goesOn Line (classOf b)) (not (eqb b 13)) h)
+plain-return b h = not-true (eqb b 13) (and-right (stretchesOver Line (classOf b)) (not (eqb b 13)) h)
 
 feed-class : classOf 10 ≡ LineEnd
 unfolding classOf between _and_ _or_ pick
@@ -55,10 +54,10 @@ module _
       ap (λ k. getD text k 0) (sym e) ∙ holds-right body (10 ∷ []) held .at-each 0 (omega arith)
 
   pub stop-back : lineStop text at ≡ at + length body
-  unfolding lineStop runsAt
+  unfolding lineStop stretchesAt
   stop-back =
       run-whole Line text body at (length text) (holds-left body (10 ∷ []) held) (line-goes body fine) (omega arith)
-      ∙ run-here Line text (at + length body) (length text) (ap (λ b. goesOn Line (classOf b)) line-feed ∙ ap (goesOn Line) feed-class)
+      ∙ stretch-here Line text (at + length body) (length text) (ap (λ b. stretchesOver Line (classOf b)) line-feed ∙ ap (stretchesOver Line) feed-class)
 
   no-return : hasReturn text at (at + length body) ≡ false
   unfolding hasReturn
@@ -80,18 +79,18 @@ module _
   pub next-back : lineNext text at ≡ at + length body + 1
   next-back = sym (next-more text at (at + length body) (sym stop-back) room)
 
--- a byte that stops a run, and one that does not
-stops-here : (run : Run) (text : List ℕ) (at stop b : ℕ) → getD text at 0 ≡ b → goesOn run (classOf b) ≡ false → runEnd run text at stop ≡ at
-unfolding runsAt
-stops-here run text at stop b e h = run-here run text at stop (ap (λ x. goesOn run (classOf x)) e ∙ h)
+-- a byte that stops a stretch, and one that does not
+stops-here : (stretch : Stretch) (text : List ℕ) (at stop b : ℕ) → getD text at 0 ≡ b → stretchesOver stretch (classOf b) ≡ false → stretchEnd stretch text at stop ≡ at
+unfolding stretchesAt
+stops-here stretch text at stop b e h = stretch-here stretch text at stop (ap (λ x. stretchesOver stretch (classOf x)) e ∙ h)
 
 goes-over :
-    (run : Run) (text : List ℕ) (at stop b : ℕ) → at < stop → getD text at 0 ≡ b → goesOn run (classOf b) ≡ true → runEnd run text at stop ≡ runEnd run text (at + 1) stop
-unfolding runsAt
-goes-over run text at stop b l e h = run-on run text at stop l (ap (λ x. goesOn run (classOf x)) e ∙ h)
+    (stretch : Stretch) (text : List ℕ) (at stop b : ℕ) → at < stop → getD text at 0 ≡ b → stretchesOver stretch (classOf b) ≡ true → stretchEnd stretch text at stop ≡ stretchEnd stretch text (at + 1) stop
+unfolding stretchesAt
+goes-over stretch text at stop b l e h = stretch-on stretch text at stop l (ap (λ x. stretchesOver stretch (classOf x)) e ∙ h)
 
 -- the first byte of a number is no blank
-digit-first : (text : List ℕ) (at n stop : ℕ) → Holds text at (decimals 20 n) → runEnd Blanks text at stop ≡ at
+digit-first : (text : List ℕ) (at n stop : ℕ) → Holds text at (decimals 20 n) → stretchEnd Blanks text at stop ≡ at
 digit-first text at n stop h =
     let e : at + 0 ≡ at = omega arith in
     let first = every-at (λ b. not (isBlank (classOf b))) (decimals 20 n) 0 (decimals-every (λ b. not (isBlank (classOf b))) (λ d l. ap (λ x. not (isBlank x)) (digit-class d l)) 20 n) (decimals-some 19 n) in
@@ -182,7 +181,7 @@ module _
       h
       sa
       (omega arith)
-      (stops-here Nonblanks text (at + length (decimals 20 a)) (lineOver at a b c) 32 (byte-after (decimals 20 a) 32 held-first) (ap (goesOn Nonblanks) space-class))
+      (stops-here Nonblanks text (at + length (decimals 20 a)) (lineOver at a b c) 32 (byte-after (decimals 20 a) 32 held-first) (ap (stretchesOver Nonblanks) space-class))
 
   second-number :
       numberAt text (at + length (decimals 20 a)) (lineOver at a b c)
@@ -195,12 +194,12 @@ module _
       (lineOver at a b c)
       (second at a)
       b
-      (goes-over Blanks text (at + length (decimals 20 a)) (lineOver at a b c) 32 (omega arith) (byte-after (decimals 20 a) 32 held-first) (ap (goesOn Blanks) space-class)
+      (goes-over Blanks text (at + length (decimals 20 a)) (lineOver at a b c) 32 (omega arith) (byte-after (decimals 20 a) 32 held-first) (ap (stretchesOver Blanks) space-class)
       ∙ digit-first text (second at a) b (lineOver at a b c) h)
       h
       sb
       (omega arith)
-      (stops-here Nonblanks text (second at a + length (decimals 20 b)) (lineOver at a b c) 32 (byte-after (decimals 20 b) 32 held-second) (ap (goesOn Nonblanks) space-class))
+      (stops-here Nonblanks text (second at a + length (decimals 20 b)) (lineOver at a b c) 32 (byte-after (decimals 20 b) 32 held-second) (ap (stretchesOver Nonblanks) space-class))
 
   third-number :
       numberAt text (second at a + length (decimals 20 b)) (lineOver at a b c)
@@ -212,16 +211,16 @@ module _
       (lineOver at a b c)
       (third at a b)
       c
-      (goes-over Blanks text (second at a + length (decimals 20 b)) (lineOver at a b c) 32 (omega arith) (byte-after (decimals 20 b) 32 held-second) (ap (goesOn Blanks) space-class)
+      (goes-over Blanks text (second at a + length (decimals 20 b)) (lineOver at a b c) 32 (omega arith) (byte-after (decimals 20 b) 32 held-second) (ap (stretchesOver Blanks) space-class)
       ∙ digit-first text (third at a b) c (lineOver at a b c) held-third)
       held-third
       sc
       (omega arith)
-      (run-over Nonblanks text (lineOver at a b c) (lineOver at a b c) (omega arith))
+      (stretch-over Nonblanks text (lineOver at a b c) (lineOver at a b c) (omega arith))
 
   line-over : endsAt text (lineOver at a b c) (lineOver at a b c) ≡ true
   unfolding endsAt
-  line-over = eq-eqb (runEnd Blanks text (lineOver at a b c) (lineOver at a b c)) (lineOver at a b c) (run-over Blanks text (lineOver at a b c) (lineOver at a b c) (omega arith))
+  line-over = eq-eqb (stretchEnd Blanks text (lineOver at a b c) (lineOver at a b c)) (lineOver at a b c) (stretch-over Blanks text (lineOver at a b c) (lineOver at a b c) (omega arith))
 
   -- the three numbers are read back
   pub three-back :
@@ -230,5 +229,5 @@ module _
   three-back = rw (first-number, second-number, third-number, line-over)
 
   -- and the line is not empty
-  pub filled-back : runEnd Blanks text at (lineOver at a b c) ≡ at
+  pub filled-back : stretchEnd Blanks text at (lineOver at a b c) ≡ at
   filled-back = digit-first text at a (lineOver at a b c) (holds-left (decimals 20 a) (32 ∷ []) held-first)

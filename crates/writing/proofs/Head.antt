@@ -1,27 +1,25 @@
 -- First line, comment and size line of a written text are read back.
 -- Assumes nothing.
-use mathlib.Core.Bool.{Bool, true, false, not}
+use mathlib.Core.Bool.{true, false, not}
 use mathlib.Core.List.{List, [], _∷_, _++_, append-assoc}
-use mathlib.Core.Path.{_≡_, refl, sym, _∙_, ap}
-use Prim.Native.Nat.{ℕ, _+_, _-_, _^_, _≤_, _<_}
+use mathlib.Core.Path.{_≡_, sym, _∙_, ap}
+use Prim.Native.Nat.{ℕ, _+_, _-_, _^_, _<_}
 use native.Mathlib.Omega.{arith}
-use lib.Dec.{eqb, ltb}
+use lib.Dec.{ltb}
 use lib.ListN.{length, getD, length-append}
 use borrow.Author.Tests.{not-true}
 use Rattle.counting.specs.Tests.{_and_, _or_}
 use Rattle.counting.proofs.Joined.{or-fails, and-fails-right}
 use Rattle.scanning.specs.Classes.{classOf, isPercent}
-use Rattle.scanning.specs.Lines.{lineEnd, lineNext, emptyLine, isComment, skipped, sizeLineAt}
-use Rattle.scanning.specs.Words.{numbersAt}
+use Rattle.scanning.specs.Lines.{isComment, skipped, sizeLineAt}
 use Rattle.scanning.proofs.Scans.{size-here}
-use Rattle.texts.specs.declared.Header.{Header}
-use Rattle.texts.specs.Header.{bannerAt, headerOf}
+use Rattle.texts.specs.Header.{headerOf}
 use Rattle.writing.specs.declared.Figures.{Figures}
 use Rattle.writing.specs.Written.{decimals, numberText, sizesText, #first-line, commentText, entriesText, headText, bodyText, textOf}
-use Rattle.writing.proofs.Held.{Holds, holds-left, holds-right, holds-as, holds-itself, every-at, digit-class, decimals-every, decimals-some}
+use Rattle.writing.proofs.Held.{Holds, holds-left, holds-right, holds-itself, every-at, digit-class, decimals-every, decimals-some}
 use Rattle.writing.proofs.Back.{lineOver, sizes-length}
 use Rattle.writing.proofs.Top.{first-end, first-next, banner-back, commentBody, comment-body, comment-skipped}
-use Rattle.writing.proofs.Rows.{row-end, row-next, row-filled, row-numbers}
+use Rattle.writing.proofs.Rows.{row-next, row-filled, row-numbers}
 
 -- a line that starts with a number is no comment
 no-comment : (text : List ℕ) (at n : ℕ) → Holds text at (decimals 20 n) → isComment text at ≡ false

@@ -1,27 +1,24 @@
 -- What a text holds from a place on, and how runs and numbers go over it: the ground for reading back what was written.
 -- Assumes nothing.
-use mathlib.Core.Bool.{Bool, true, false, not}
+use mathlib.Core.Bool.{Bool, true, false}
 use mathlib.Core.List.{List, [], _∷_, _++_}
 use mathlib.Core.Path.{_≡_, refl, sym, _∙_, ap}
 use Prim.Native.Nat.{ℕ, zero, suc, _+_, _-_, _*_, _/_, _%_, _^_, _≤_, _<_}
 use native.Mathlib.Nat.{mod-lt, div-add-mod', pow-suc, pow-zero}
-use native.Mathlib.Numerals.{add-one}
 use native.Mathlib.Omega.{arith}
-use lib.Dec.{eqb, ltb, leb}
+use lib.Dec.{ltb}
 use lib.ListN.{length, getD, length-append, List·getD-append}
 use lib.Seq.{getD-append-add}
-use borrow.Author.Tests.{ltb-true, ltb-false, lt-ltb, le-ltb, le-leb, lt-leb, eq-eqb, ne-eqb}
+use borrow.Author.Tests.{ltb-true, lt-ltb, le-leb, eq-eqb}
 use Rattle.counting.specs.Tests.{_and_, _or_, pick}
 use Rattle.counting.proofs.Joined.{by-test, no-way, and-left, and-right, and-intro, pick-true, pick-false}
-use Rattle.scanning.specs.declared.Class.{Class}
-use Rattle.scanning.specs.declared.Class.the-variants.{Digit, Blank, LineEnd}
-use Rattle.scanning.specs.declared.Run.{Run}
-use Rattle.scanning.specs.declared.Run.the-variants.{Blanks, Nonblanks, Digits}
-use Rattle.scanning.specs.declared.Number.{Number}
-use Rattle.scanning.specs.Classes.{between, classOf, goesOn, digitOf}
-use Rattle.scanning.specs.Lines.{runsAt, runEnd}
+use Rattle.scanning.specs.declared.Class.the-variants.{Digit}
+use Rattle.scanning.specs.declared.Stretch.{Stretch}
+use Rattle.scanning.specs.declared.Stretch.the-variants.{Blanks, Nonblanks, Digits}
+use Rattle.scanning.specs.Classes.{classOf, stretchesOver, digitOf}
+use Rattle.scanning.specs.Lines.{stretchesAt, stretchEnd}
 use Rattle.scanning.specs.Words.{isNumber, valueOf, numberValue, wordAt, numberAt}
-use Rattle.scanning.proofs.Scans.{between-in, run-on, run-over, value-more, value-some}
+use Rattle.scanning.proofs.Scans.{between-in, stretch-on, stretch-over, value-more, value-some}
 use Rattle.writing.specs.Written.{decimals}
 
 -- a text holds these bytes from a place on
@@ -62,24 +59,24 @@ every-at test [] i p l = no-way (omega arith)
 every-at test (b ∷ s) zero p l = and-left (test b) (every test s) p
 every-at test (b ∷ s) (suc i) p l = every-at test s i (and-right (test b) (every test s) p) (omega arith)
 
--- a run goes over bytes that it goes on over
+-- a stretch goes over bytes that it goes on over
 pub run-through :
-    (run : Run) (text bytes : List ℕ) (at stop k : ℕ) → Holds text at bytes → every (λ b. goesOn run (classOf b)) bytes ≡ true →
-    at + length bytes ≤ stop → k ≤ length bytes → runEnd run text at stop ≡ runEnd run text (at + k) stop
-unfolding runsAt
-run-through run text bytes at stop zero h p r l =
+    (stretch : Stretch) (text bytes : List ℕ) (at stop k : ℕ) → Holds text at bytes → every (λ b. stretchesOver stretch (classOf b)) bytes ≡ true →
+    at + length bytes ≤ stop → k ≤ length bytes → stretchEnd stretch text at stop ≡ stretchEnd stretch text (at + k) stop
+unfolding stretchesAt
+run-through stretch text bytes at stop zero h p r l =
     let e : at ≡ at + 0 = omega arith in
-    ap (λ x. runEnd run text x stop) e
-run-through run text bytes at stop (suc k) h p r l =
+    ap (λ x. stretchEnd stretch text x stop) e
+run-through stretch text bytes at stop (suc k) h p r l =
     let e : at + k + 1 ≡ at + suc k = omega arith in
-    run-through run text bytes at stop k h p r (omega arith)
-    ∙ run-on run text (at + k) stop (omega arith) (ap (λ b. goesOn run (classOf b)) (h .at-each k (omega arith)) ∙ every-at (λ b. goesOn run (classOf b)) bytes k p (omega arith))
-    ∙ ap (λ x. runEnd run text x stop) e
+    run-through stretch text bytes at stop k h p r (omega arith)
+    ∙ stretch-on stretch text (at + k) stop (omega arith) (ap (λ b. stretchesOver stretch (classOf b)) (h .at-each k (omega arith)) ∙ every-at (λ b. stretchesOver stretch (classOf b)) bytes k p (omega arith))
+    ∙ ap (λ x. stretchEnd stretch text x stop) e
 
 pub run-whole :
-    (run : Run) (text bytes : List ℕ) (at stop : ℕ) → Holds text at bytes → every (λ b. goesOn run (classOf b)) bytes ≡ true →
-    at + length bytes ≤ stop → runEnd run text at stop ≡ runEnd run text (at + length bytes) stop
-run-whole run text bytes at stop h p r = run-through run text bytes at stop (length bytes) h p r (omega arith)
+    (stretch : Stretch) (text bytes : List ℕ) (at stop : ℕ) → Holds text at bytes → every (λ b. stretchesOver stretch (classOf b)) bytes ≡ true →
+    at + length bytes ≤ stop → stretchEnd stretch text at stop ≡ stretchEnd stretch text (at + length bytes) stop
+run-whole stretch text bytes at stop h p r = run-through stretch text bytes at stop (length bytes) h p r (omega arith)
 
 -- a digit's byte
 pub digit-class : (d : ℕ) → d < 10 → classOf (48 + d) ≡ Digit
@@ -193,21 +190,21 @@ decimals-fit (suc k) (suc j) n l =
     (λ e. omega (arith, higher-length k n, ap length (higher-some k n e), decimals-fit k j (n / 10) (omega (arith, div-add-mod' n 10, pow-suc 10 (suc j)))))
 
 -- what runs do at a digit
-digit-goes : (run : Run) (d : ℕ) → d < 10 → goesOn run Digit ≡ true → goesOn run (classOf (48 + d)) ≡ true
-digit-goes run d l h = ap (goesOn run) (digit-class d l) ∙ h
+digit-goes : (stretch : Stretch) (d : ℕ) → d < 10 → stretchesOver stretch Digit ≡ true → stretchesOver stretch (classOf (48 + d)) ≡ true
+digit-goes stretch d l h = ap (stretchesOver stretch) (digit-class d l) ∙ h
 
 pub run-number :
-    (run : Run) (text : List ℕ) (from stop k n : ℕ) → goesOn run Digit ≡ true → Holds text from (decimals k n) →
-    from + length (decimals k n) ≤ stop → runEnd run text from stop ≡ runEnd run text (from + length (decimals k n)) stop
-run-number run text from stop k n g h r =
-    run-whole run text (decimals k n) from stop h (decimals-every (λ b. goesOn run (classOf b)) (λ d l. digit-goes run d l g) k n) r
+    (stretch : Stretch) (text : List ℕ) (from stop k n : ℕ) → stretchesOver stretch Digit ≡ true → Holds text from (decimals k n) →
+    from + length (decimals k n) ≤ stop → stretchEnd stretch text from stop ≡ stretchEnd stretch text (from + length (decimals k n)) stop
+run-number stretch text from stop k n g h r =
+    run-whole stretch text (decimals k n) from stop h (decimals-every (λ b. stretchesOver stretch (classOf b)) (λ d l. digit-goes stretch d l g) k n) r
 
 -- a number that was written is a number, and reads as its value
 module _
-    (text : List ℕ) (at end from n : ℕ) (blanks : runEnd Blanks text at end ≡ from) (held : Holds text from (decimals 20 n))
+    (text : List ℕ) (at end from n : ℕ) (blanks : stretchEnd Blanks text at end ≡ from) (held : Holds text from (decimals 20 n))
     (small : n < 10 ^ 9) (inside : from + length (decimals 20 n) ≤ end)
-    (ends : runEnd Nonblanks text (from + length (decimals 20 n)) end ≡ from + length (decimals 20 n)) where
-  stops : runEnd Nonblanks text from end ≡ from + length (decimals 20 n)
+    (ends : stretchEnd Nonblanks text (from + length (decimals 20 n)) end ≡ from + length (decimals 20 n)) where
+  stops : stretchEnd Nonblanks text from end ≡ from + length (decimals 20 n)
   stops = run-number Nonblanks text from end 20 n refl held inside ∙ ends
 
   is-number : isNumber text from (from + length (decimals 20 n)) ≡ true
@@ -216,10 +213,10 @@ module _
       let len = length (decimals 20 n) in
       let one = decimals-some 19 n in
       let nine = decimals-fit 20 8 n small in
-      let digits = run-number Digits text from (from + len) 20 n refl held (omega arith) ∙ run-over Digits text (from + len) (from + len) (omega arith) in
+      let digits = run-number Digits text from (from + len) 20 n refl held (omega arith) ∙ stretch-over Digits text (from + len) (from + len) (omega arith) in
       and-intro
       (lt-ltb from (from + len) (omega arith))
-      (and-intro (le-leb (from + len - from) 9 (omega arith)) (eq-eqb (runEnd Digits text from (from + len)) (from + len) digits))
+      (and-intro (le-leb (from + len - from) 9 (omega arith)) (eq-eqb (stretchEnd Digits text from (from + len)) (from + len) digits))
 
   its-value : numberValue text from (from + length (decimals 20 n)) ≡ n
   its-value =

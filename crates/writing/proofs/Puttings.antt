@@ -1,6 +1,5 @@
 -- Laws of texts put one after another.
 -- Assumes nothing.
-use mathlib.Core.Bool.{Bool, true, false}
 use mathlib.Core.List.{List, [], _∷_, _++_}
 use mathlib.Core.Path.{_≡_, refl, sym, _∙_, ap}
 use Prim.Native.Nat.{ℕ, zero, suc, _+_, _-_, _/_, _%_, _≤_, _<_}
@@ -240,6 +239,3 @@ pub puts-text :
     Puts page 0 (textOf m n nonzeros list parts f) last next
 unfolding textOf
 puts-text m n nonzeros list parts f p q = puts-then p q
-
-pub text-length-is : {page new text : List ℕ} {next : ℕ} → Puts page 0 text new next → next ≡ length text
-text-length-is {page} {new} {text} {next} p = omega (arith, p .after)

@@ -1,22 +1,19 @@
 -- A written line of three numbers, the size line or an entry, is read back whole.
 -- Assumes nothing.
-use mathlib.Core.Bool.{Bool, true, false, not}
+use mathlib.Core.Bool.{true, false}
 use mathlib.Core.List.{List, [], _∷_, _++_}
-use mathlib.Core.Path.{_≡_, refl, sym, _∙_, ap}
-use Prim.Native.Nat.{ℕ, _+_, _-_, _^_, _≤_, _<_}
+use mathlib.Core.Path.{_≡_, refl, _∙_, ap}
+use Prim.Native.Nat.{ℕ, _+_, _-_, _^_, _<_}
 use native.Mathlib.Omega.{arith}
-use lib.Dec.{eqb, ltb}
-use lib.ListN.{length, getD, length-append}
-use borrow.Author.Tests.{not-true, ne-eqb}
-use Rattle.counting.specs.Tests.{_and_, _or_, pick}
-use Rattle.counting.proofs.Joined.{or-fails, and-fails-right, pick-true}
-use Rattle.scanning.specs.declared.Run.the-variants.{Blanks}
-use Rattle.scanning.specs.declared.Numbers.{Numbers}
-use Rattle.scanning.specs.Classes.{classOf, isPercent}
-use Rattle.scanning.specs.Lines.{runEnd, lineEnd, lineNext, emptyLine, isComment, skipped}
+use lib.ListN.{length}
+use borrow.Author.Tests.{ne-eqb}
+use Rattle.counting.specs.Tests.{_or_}
+use Rattle.counting.proofs.Joined.{pick-true}
+use Rattle.scanning.specs.declared.Stretch.the-variants.{Blanks}
+use Rattle.scanning.specs.Lines.{stretchEnd, lineEnd, lineNext, emptyLine}
 use Rattle.scanning.specs.Words.{threeAt, twoAt, numbersAt}
 use Rattle.writing.specs.Written.{decimals, numberText, sizesText}
-use Rattle.writing.proofs.Held.{Holds, holds-left, holds-as, every, every-append, every-at, digit-class, decimals-every, decimals-some}
+use Rattle.writing.proofs.Held.{Holds, holds-left, holds-as, every, every-append, decimals-every}
 use Rattle.writing.proofs.Back.{plain, end-back, next-back, threeBody, sizes-body, lineOver, body-length, three-back, filled-back}
 use Rattle.writing.proofs.Top.{digit-plain, number-plain}
 
@@ -48,8 +45,8 @@ module _
   pub row-filled : emptyLine text at ≡ false
   unfolding emptyLine
   row-filled =
-      let same = ap (runEnd Blanks text at) row-end ∙ filled-back text at a b c held-body sa sb sc in
-      ne-eqb (runEnd Blanks text at (lineEnd text at)) (lineEnd text at) (λ e. omega (arith, same, row-end))
+      let same = ap (stretchEnd Blanks text at) row-end ∙ filled-back text at a b c held-body sa sb sc in
+      ne-eqb (stretchEnd Blanks text at (lineEnd text at)) (lineEnd text at) (λ e. omega (arith, same, row-end))
 
   pub row-numbers : numbersAt text at (lineEnd text at) true ≡ (record { fine = true; first = a; second = b; third = c })
   unfolding numbersAt

@@ -3,24 +3,22 @@
 use mathlib.Core.Bool.{Bool, true, false, not}
 use mathlib.Core.List.{List, [], _∷_, _++_, append-assoc}
 use mathlib.Core.Path.{_≡_, refl, sym, _∙_, ap}
-use Prim.Native.Nat.{ℕ, zero, suc, _+_, _-_, _≤_, _<_}
+use Prim.Native.Nat.{ℕ, _+_, _-_, _≤_, _<_}
 use native.Mathlib.Omega.{arith}
-use lib.Dec.{eqb, ltb}
+use lib.Dec.{eqb}
 use lib.ListN.{length, getD, length-append}
 use borrow.Author.Tests.{lt-ltb, ne-eqb}
 use Rattle.counting.specs.Tests.{_and_, _or_, pick}
-use Rattle.counting.proofs.Joined.{by-test, and-intro, or-right, pick-true, pick-false}
-use Rattle.scanning.specs.declared.Class.the-variants.{Digit, Percent}
-use Rattle.scanning.specs.declared.Run.the-variants.{Line}
-use Rattle.scanning.specs.Classes.{between, classOf, lowered, cased, goesOn, isPercent}
-use Rattle.scanning.specs.Lines.{past, runsAt, runEnd, lineEnd, lineNext, emptyLine, isComment, skipped, sizeLineAt}
+use Rattle.counting.proofs.Joined.{and-intro, or-right}
+use Rattle.scanning.specs.declared.Stretch.the-variants.{Line}
+use Rattle.scanning.specs.Classes.{between, classOf, smallLetter, cased, stretchesOver, isPercent}
+use Rattle.scanning.specs.Lines.{past, stretchesAt, stretchEnd, lineEnd, lineNext, emptyLine, isComment, skipped, sizeLineAt}
 use Rattle.scanning.specs.Words.{wordAt, spells, sameWord, endsAt}
 use Rattle.scanning.proofs.Scans.{size-on}
-use Rattle.texts.specs.declared.Banner as banner
 use Rattle.texts.specs.Header.{bannerAt}
 use Rattle.writing.specs.declared.Figures.{Figures}
 use Rattle.writing.specs.Written.{decimals, numberText, figureText, #volume, #cap, #tries, #floor, #stopped, #complete, #first-line, endingText, commentText}
-use Rattle.writing.proofs.Held.{Holds, holds-left, holds-right, holds-as, holds-itself, every, every-append, digit-class, decimals-every}
+use Rattle.writing.proofs.Held.{Holds, holds-left, holds-as, holds-itself, every, every-append, digit-class, decimals-every}
 use Rattle.writing.proofs.Back.{plain, end-back, next-back}
 
 -- the first line without its LF
@@ -45,14 +43,14 @@ module _ (rest : List ℕ) where
 
   -- it is a banner, with F = integer
   pub banner-back : bannerAt (#first-line ++ rest) 48 ≡ (record { fine = true; integer = true })
-  unfolding bannerAt wordAt sameWord spells endsAt runEnd runsAt past cased lowered classOf between _and_ _or_ pick
+  unfolding bannerAt wordAt sameWord spells endsAt stretchEnd stretchesAt past cased smallLetter classOf between _and_ _or_ pick
   banner-back = refl
 
 -- the bytes of the comment
 pub digit-plain : (d : ℕ) → d < 10 → plain (48 + d) ≡ true
 unfolding plain
 digit-plain d l =
-    and-intro (ap (goesOn Line) (digit-class d l)) (ap not (ne-eqb (48 + d) 13 (λ e. omega arith)))
+    and-intro (ap (stretchesOver Line) (digit-class d l)) (ap not (ne-eqb (48 + d) 13 (λ e. omega arith)))
 
 space-plain : every plain (32 ∷ []) ≡ true
 unfolding every plain classOf between _and_ _or_ pick

@@ -1,31 +1,29 @@
 -- Worked samples of the writer: document 01's text, read back, and refusals.
 -- Assumes nothing.
-use mathlib.Core.Bool.{true, false}
+use mathlib.Core.Bool.{true}
 use mathlib.Core.List.{List, [], _∷_, _++_}
 use mathlib.Core.Path.{_≡_, refl}
 use Prim.Native.Nat.{ℕ}
 use lib.ListN.{length, replicate}
 use Rattle.counting.specs.Tests.{_and_, _or_, pick, bit}
 use Rattle.counting.specs.Sums.{sum}
-use Rattle.model.specs.declared.Word.the-variants.{TooBig, OffMatrix, BadPart, ShortBuffer, Order}
-use Rattle.model.specs.Refusal.{given, refusal, refuse, _then_}
+use Rattle.model.specs.declared.Word.the-variants.{BadPart, ShortBuffer, Order}
+use Rattle.model.specs.Refusal.{given, refusal, refuse, _then_, eachVerdict}
 use Rattle.model.specs.Pattern.{rowIn, columnIn}
 use Rattle.model.specs.Calls.{outside, sizesVerdict, rises, entryVerdict}
-use Rattle.pattern.specs.Checks.{eachVerdict}
 use Rattle.pattern.specs.Measures.{partVerdict}
-use Rattle.scanning.specs.Classes.{between, classOf, lowered, cased, digitOf}
+use Rattle.scanning.specs.Classes.{between, classOf, smallLetter, cased, digitOf}
 use Rattle.scanning.specs.Checks.{moved}
-use Rattle.scanning.specs.Lines.{past, runsAt, runEnd, lineStop, hasReturn, lineEnd, lineNext, emptyLine, isComment, skipped, sizeLineAt}
+use Rattle.scanning.specs.Lines.{past, stretchesAt, stretchEnd, lineStop, hasReturn, lineEnd, lineNext, emptyLine, isComment, skipped, sizeLineAt}
 use Rattle.scanning.specs.Words.{wordAt, spells, sameWord, isNumber, valueOf, numberValue, numberAt, endsAt, threeAt, twoAt, numbersAt}
 use Rattle.texts.specs.declared.ReadAnswer.the-variants as read-answer
 use Rattle.texts.specs.Header.{bannerAt, headerOf, short, headVerdict}
 use Rattle.texts.specs.Entries.{entryAt, cellOf, noCells, isGiven, cellMark, entryCheck, lineVerdict, noted, endVerdict, after, entriesFrom}
-use Rattle.texts.specs.Reading.{listCell, partCell, listed, parted, givenParts, entriesBelow, outputAfter, textVerdict, readVerdict, readCall, readList, readParts}
-use Rattle.texts.specs.Reading as reading
+use Rattle.texts.specs.Reading.{listCell, partCell, listed, parted, givenParts, entriesBelow, answerRead, outputAfter, textVerdict, readVerdict, readCall, readList, readParts}
 use Rattle.writing.specs.declared.Figures.{Figures}
 use Rattle.writing.specs.declared.WriteAnswer.the-variants as write-answer
 use Rattle.writing.specs.Written.{decimals, numberText, figureText, endingText, commentText, sizesText, entryText, entriesText, headText, bodyText, textOf}
-use Rattle.writing.specs.Writing.{nonzeroVerdict, writeVerdict, lengthAnswer, textOut, answerAfter, outAfter, writeCall, writeOut, writeReply}
+use Rattle.writing.specs.Writing.{nonzeroVerdict, writeVerdict, lengthAnswer, textOut, answerWritten, outWritten, writeCall, writeOut, writeReply}
 
 -- the 2 by 2 diagonal, with its nonzeros in different parts, and the figures of document 01's sample
 abbrev diagonal : List ℕ
@@ -46,25 +44,25 @@ abbrev paper : List ℕ
 paper = replicate 111 7
 
 written : writeCall 2 2 2 diagonal apart figures paper ≡ write-answer.Written 110
-unfolding writeCall writeOut writeVerdict nonzeroVerdict lengthAnswer textOut answerAfter outAfter textOf headText bodyText entriesText entryText sizesText commentText endingText figureText numberText decimals eachVerdict partVerdict entryVerdict rises rowIn columnIn refuse _then_ sizesVerdict outside _and_ _or_ pick
+unfolding writeCall writeOut writeVerdict nonzeroVerdict lengthAnswer textOut answerWritten outWritten textOf headText bodyText entriesText entryText sizesText commentText endingText figureText numberText decimals eachVerdict partVerdict entryVerdict rises rowIn columnIn refuse _then_ sizesVerdict outside _and_ _or_ pick
 written = refl
 
 -- bytes past the text stay
 written-out : writeOut 2 2 2 diagonal apart figures paper ≡ printed ++ (7 ∷ [])
-unfolding writeCall writeOut writeVerdict nonzeroVerdict lengthAnswer textOut answerAfter outAfter textOf headText bodyText entriesText entryText sizesText commentText endingText figureText numberText decimals eachVerdict partVerdict entryVerdict rises rowIn columnIn refuse _then_ sizesVerdict outside _and_ _or_ pick
+unfolding writeCall writeOut writeVerdict nonzeroVerdict lengthAnswer textOut answerWritten outWritten textOf headText bodyText entriesText entryText sizesText commentText endingText figureText numberText decimals eachVerdict partVerdict entryVerdict rises rowIn columnIn refuse _then_ sizesVerdict outside _and_ _or_ pick
 written-out = refl
 
 -- it is read back
 back : readCall printed diagonal apart ≡ read-answer.Read 2 2 2 true
-unfolding readCall readList readParts readVerdict textVerdict entriesBelow reading.answerAfter outputAfter givenParts listed parted listCell partCell entriesFrom after endVerdict noted lineVerdict entryCheck cellMark isGiven noCells cellOf entryAt headVerdict short headerOf bannerAt moved numbersAt threeAt twoAt endsAt numberAt numberValue valueOf isNumber sameWord spells wordAt sizeLineAt skipped isComment emptyLine lineNext lineEnd hasReturn lineStop runEnd runsAt past digitOf cased lowered classOf between refuse _then_ sizesVerdict outside sum _and_ _or_ pick bit
+unfolding readCall readList readParts readVerdict textVerdict entriesBelow answerRead outputAfter givenParts listed parted listCell partCell entriesFrom after endVerdict noted lineVerdict entryCheck cellMark isGiven noCells cellOf entryAt headVerdict short headerOf bannerAt moved numbersAt threeAt twoAt endsAt numberAt numberValue valueOf isNumber sameWord spells wordAt sizeLineAt skipped isComment emptyLine lineNext lineEnd hasReturn lineStop stretchEnd stretchesAt past digitOf cased smallLetter classOf between refuse _then_ sizesVerdict outside sum _and_ _or_ pick bit
 back = refl
 
 back-list : readList printed (replicate 4 9) (replicate 2 9) ≡ diagonal
-unfolding readCall readList readParts readVerdict textVerdict entriesBelow reading.answerAfter outputAfter givenParts listed parted listCell partCell entriesFrom after endVerdict noted lineVerdict entryCheck cellMark isGiven noCells cellOf entryAt headVerdict short headerOf bannerAt moved numbersAt threeAt twoAt endsAt numberAt numberValue valueOf isNumber sameWord spells wordAt sizeLineAt skipped isComment emptyLine lineNext lineEnd hasReturn lineStop runEnd runsAt past digitOf cased lowered classOf between refuse _then_ sizesVerdict outside sum _and_ _or_ pick bit
+unfolding readCall readList readParts readVerdict textVerdict entriesBelow answerRead outputAfter givenParts listed parted listCell partCell entriesFrom after endVerdict noted lineVerdict entryCheck cellMark isGiven noCells cellOf entryAt headVerdict short headerOf bannerAt moved numbersAt threeAt twoAt endsAt numberAt numberValue valueOf isNumber sameWord spells wordAt sizeLineAt skipped isComment emptyLine lineNext lineEnd hasReturn lineStop stretchEnd stretchesAt past digitOf cased smallLetter classOf between refuse _then_ sizesVerdict outside sum _and_ _or_ pick bit
 back-list = refl
 
 back-parts : readParts printed (replicate 4 9) (replicate 2 9) ≡ apart
-unfolding readCall readList readParts readVerdict textVerdict entriesBelow reading.answerAfter outputAfter givenParts listed parted listCell partCell entriesFrom after endVerdict noted lineVerdict entryCheck cellMark isGiven noCells cellOf entryAt headVerdict short headerOf bannerAt moved numbersAt threeAt twoAt endsAt numberAt numberValue valueOf isNumber sameWord spells wordAt sizeLineAt skipped isComment emptyLine lineNext lineEnd hasReturn lineStop runEnd runsAt past digitOf cased lowered classOf between refuse _then_ sizesVerdict outside sum _and_ _or_ pick bit
+unfolding readCall readList readParts readVerdict textVerdict entriesBelow answerRead outputAfter givenParts listed parted listCell partCell entriesFrom after endVerdict noted lineVerdict entryCheck cellMark isGiven noCells cellOf entryAt headVerdict short headerOf bannerAt moved numbersAt threeAt twoAt endsAt numberAt numberValue valueOf isNumber sameWord spells wordAt sizeLineAt skipped isComment emptyLine lineNext lineEnd hasReturn lineStop stretchEnd stretchesAt past digitOf cased smallLetter classOf between refuse _then_ sizesVerdict outside sum _and_ _or_ pick bit
 back-parts = refl
 
 -- 0 is one digit, and the largest figure has twenty
@@ -74,23 +72,23 @@ longest = refl
 
 -- 9 for the output comes last
 no-room : writeCall 2 2 2 diagonal apart figures (7 ∷ []) ≡ write-answer.Refused ShortBuffer 0
-unfolding writeCall writeOut writeVerdict nonzeroVerdict lengthAnswer textOut answerAfter outAfter textOf headText bodyText entriesText entryText sizesText commentText endingText figureText numberText decimals eachVerdict partVerdict entryVerdict rises rowIn columnIn refuse _then_ sizesVerdict outside _and_ _or_ pick
+unfolding writeCall writeOut writeVerdict nonzeroVerdict lengthAnswer textOut answerWritten outWritten textOf headText bodyText entriesText entryText sizesText commentText endingText figureText numberText decimals eachVerdict partVerdict entryVerdict rises rowIn columnIn refuse _then_ sizesVerdict outside _and_ _or_ pick
 no-room = refl
 
 -- 8 of a nonzero comes before 10 of the next
 part-first : writeCall 2 2 2 (0 ∷ 1 ∷ 0 ∷ 0 ∷ []) (2 ∷ 0 ∷ []) figures [] ≡ write-answer.Refused BadPart 0
-unfolding writeCall writeOut writeVerdict nonzeroVerdict lengthAnswer textOut answerAfter outAfter textOf headText bodyText entriesText entryText sizesText commentText endingText figureText numberText decimals eachVerdict partVerdict entryVerdict rises rowIn columnIn refuse _then_ sizesVerdict outside _and_ _or_ pick
+unfolding writeCall writeOut writeVerdict nonzeroVerdict lengthAnswer textOut answerWritten outWritten textOf headText bodyText entriesText entryText sizesText commentText endingText figureText numberText decimals eachVerdict partVerdict entryVerdict rises rowIn columnIn refuse _then_ sizesVerdict outside _and_ _or_ pick
 part-first = refl
 
 unsorted : writeCall 2 2 2 (0 ∷ 1 ∷ 0 ∷ 0 ∷ []) (1 ∷ 2 ∷ []) figures [] ≡ write-answer.Refused Order 1
-unfolding writeCall writeOut writeVerdict nonzeroVerdict lengthAnswer textOut answerAfter outAfter textOf headText bodyText entriesText entryText sizesText commentText endingText figureText numberText decimals eachVerdict partVerdict entryVerdict rises rowIn columnIn refuse _then_ sizesVerdict outside _and_ _or_ pick
+unfolding writeCall writeOut writeVerdict nonzeroVerdict lengthAnswer textOut answerWritten outWritten textOf headText bodyText entriesText entryText sizesText commentText endingText figureText numberText decimals eachVerdict partVerdict entryVerdict rises rowIn columnIn refuse _then_ sizesVerdict outside _and_ _or_ pick
 unsorted = refl
 
 short-parts : writeCall 2 2 2 (5 ∷ 5 ∷ 5 ∷ 5 ∷ []) (1 ∷ []) figures [] ≡ write-answer.Refused ShortBuffer 0
-unfolding writeCall writeOut writeVerdict nonzeroVerdict lengthAnswer textOut answerAfter outAfter textOf headText bodyText entriesText entryText sizesText commentText endingText figureText numberText decimals eachVerdict partVerdict entryVerdict rises rowIn columnIn refuse _then_ sizesVerdict outside _and_ _or_ pick
+unfolding writeCall writeOut writeVerdict nonzeroVerdict lengthAnswer textOut answerWritten outWritten textOf headText bodyText entriesText entryText sizesText commentText endingText figureText numberText decimals eachVerdict partVerdict entryVerdict rises rowIn columnIn refuse _then_ sizesVerdict outside _and_ _or_ pick
 short-parts = refl
 
--- the same in numbers: the text's length
+-- what a writing replies in numbers: the text's length
 written-reply : writeReply (write-answer.Written 110) ≡ record { number = 0; place = 0; values = 110 ∷ [] }
 unfolding writeReply given
 written-reply = refl

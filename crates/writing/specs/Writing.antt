@@ -9,10 +9,9 @@ use Rattle.counting.specs.Tests.{_or_, pick}
 use Rattle.model.specs.declared.Word.the-variants.{ShortBuffer}
 use Rattle.model.specs.declared.Verdict.{Verdict}
 use Rattle.model.specs.declared.Verdict.the-variants.{Accepted, Refused}
-use Rattle.model.specs.Refusal.{Reply, given, refusal, replyAfter, refuse, _then_}
+use Rattle.model.specs.Refusal.{Reply, given, refusal, replyAfter, refuse, _then_, eachVerdict}
 use Rattle.model.specs.Pattern.{entryBytes}
 use Rattle.model.specs.Calls.{sizesVerdict, entryVerdict}
-use Rattle.pattern.specs.Checks.{eachVerdict}
 use Rattle.pattern.specs.Measures.{partVerdict}
 use Rattle.writing.specs.declared.Figures.{Figures}
 use Rattle.writing.specs.declared.WriteAnswer.{WriteAnswer}
@@ -40,24 +39,24 @@ unfoldable pub textOut : List ℕ → List ℕ → List ℕ
 textOut text out = pick (ltb (length out) (length text)) out (sets out 0 text)
 
 -- what the writer answers, after this verdict
-unfoldable pub answerAfter : Verdict → List ℕ → List ℕ → WriteAnswer
-answerAfter Accepted text out = lengthAnswer text out
-answerAfter (Refused word place) text out = write-answer.Refused word place
+unfoldable pub answerWritten : Verdict → List ℕ → List ℕ → WriteAnswer
+answerWritten Accepted text out = lengthAnswer text out
+answerWritten (Refused word place) text out = write-answer.Refused word place
 
 -- the output after this verdict
-unfoldable pub outAfter : Verdict → List ℕ → List ℕ → List ℕ
-outAfter Accepted text out = textOut text out
-outAfter (Refused word place) text out = out
+unfoldable pub outWritten : Verdict → List ℕ → List ℕ → List ℕ
+outWritten Accepted text out = textOut text out
+outWritten (Refused word place) text out = out
 
 -- what the writer answers
 unfoldable pub writeCall : ℕ → ℕ → ℕ → List ℕ → List ℕ → Figures → List ℕ → WriteAnswer
 writeCall m n nonzeros list parts f out =
-    answerAfter (writeVerdict m n nonzeros list parts) (textOf m n nonzeros list parts f) out
+    answerWritten (writeVerdict m n nonzeros list parts) (textOf m n nonzeros list parts f) out
 
 -- the output's bytes after a writing
 unfoldable pub writeOut : ℕ → ℕ → ℕ → List ℕ → List ℕ → Figures → List ℕ → List ℕ
 writeOut m n nonzeros list parts f out =
-    outAfter (writeVerdict m n nonzeros list parts) (textOf m n nonzeros list parts f) out
+    outWritten (writeVerdict m n nonzeros list parts) (textOf m n nonzeros list parts f) out
 
 -- the number and values of each case of an answer: the text's length
 unfoldable pub writeReply : WriteAnswer → Reply

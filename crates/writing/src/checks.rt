@@ -6,14 +6,14 @@ use pattern::checks::entry_verdict;
 use pattern::checks::sizes_verdict;
 use pattern::measures::part_verdict;
 use pattern::reading::wide16;
-use scanning::tests::either;
+use pattern::tests::either_of;
 use scanning::tests::refuse_if;
 ghost use mathlib.Core.Path.{_≡_};
-ghost use Rattle.pattern.specs.Checks.{eachVerdict};
+ghost use Rattle.model.specs.Refusal.{eachVerdict};
 ghost use Rattle.writing.specs.Writing.{nonzeroVerdict, writeVerdict};
 
 // 5, 10, 8: row or column outside; list not strictly rising; a part byte above 1.
-pub fn nonzero_verdict(m: u64, n: u64, list: &[u8], parts: &[u8], t: u16) -> Verdict
+fn nonzero_verdict(m: u64, n: u64, list: &[u8], parts: &[u8], t: u16) -> Verdict
     ensures { λ r. ⌜ r ≡ nonzeroVerdict m n (now (list .entry)) (now (parts .entry)) t ⌝ }
 {
     let entry = entry_verdict(m, n, list, t);
@@ -23,7 +23,7 @@ pub fn nonzero_verdict(m: u64, n: u64, list: &[u8], parts: &[u8], t: u16) -> Ver
 }
 
 // The checks of the first nonzeros, in number order.
-pub fn nonzeros_verdict(m: u64, n: u64, list: &[u8], parts: &[u8], nonzeros: u16) -> Verdict
+fn nonzeros_verdict(m: u64, n: u64, list: &[u8], parts: &[u8], nonzeros: u16) -> Verdict
     ensures { λ r. ⌜ r ≡ eachVerdict (nonzeroVerdict m n (now (list .entry)) (now (parts .entry))) nonzeros ⌝ }
 {
     let mut t: u16 = 0;
@@ -42,14 +42,14 @@ pub fn nonzeros_verdict(m: u64, n: u64, list: &[u8], parts: &[u8], nonzeros: u16
 }
 
 // The checks of the writer but the last: 4, 9 for list and parts, then per nonzero 5, 10, 8.
-pub fn write_verdict(m: u64, n: u64, nonzeros: u64, list: &[u8], parts: &[u8]) -> Verdict
+pub(crate) fn write_verdict(m: u64, n: u64, nonzeros: u64, list: &[u8], parts: &[u8]) -> Verdict
     ensures { λ r. ⌜ r ≡ writeVerdict m n nonzeros (now (list .entry)) (now (parts .entry)) ⌝ }
 {
     let sizes = sizes_verdict(m, n, nonzeros);
     match sizes {
         Verdict::Accepted => {
             let needed = nonzeros as usize;
-            let short = either(list.len() < 2 * needed, parts.len() < needed);
+            let short = either_of(list.len() < 2 * needed, parts.len() < needed);
             let room = refuse_if(short, Word::ShortBuffer, 0);
             let each = nonzeros_verdict(m, n, list, parts, nonzeros as u16);
             and_then(room, each)

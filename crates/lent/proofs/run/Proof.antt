@@ -15,7 +15,6 @@ use denote.Struct.Laws as LL
 use denote.Enum.Laws as EL
 use Rattle.model.specs.Calls.{runCall, runReply, runReplies}
 use Rattle.model.specs.declared.Search.{Search}
-use Rattle.model.specs.declared.RunAnswer.{RunAnswer}
 use Rattle.model.specs.declared.Ran.{Ran}
 use Rattle.model.proofs.Search as T
 use Rattle.model.proofs.Search.Laws as T′

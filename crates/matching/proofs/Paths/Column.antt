@@ -13,11 +13,11 @@ use Rattle.model.specs.Pattern.{Pattern, Inside}
 use Rattle.model.specs.Marking.{Marking}
 use Rattle.model.proofs.Matching.Mates.{Matching, joined}
 use Rattle.model.proofs.Matching.Swap.{withMate, with-cases, leave-out, put-in, swap-last, swap-more, swap-same}
-use Rattle.model.proofs.Matching.Same.{matching-same, matched-same, with-swap}
+use Rattle.model.proofs.Matching.Same.{matching-same, matched-same, with-swap, with-cong}
 use Rattle.matching.specs.Augmenting.{Visited, visited, entered, handOver}
 use Rattle.matching.proofs.Visits.Steps.{hand-found, hand-not}
 use Rattle.matching.proofs.Paths.Entered.{entered-apart, entered-same, entered-stays, entered-only}
-use Rattle.matching.proofs.Paths.Outcome.{mates, mates-set, with-agree, Lost, Won, RowPost, ColumnPost, lost-none}
+use Rattle.matching.proofs.Paths.Outcome.{mates, mates-set, Lost, Won, RowPost, ColumnPost, lost-none}
 
 -- a post of one outcome is one of an equal outcome
 pub column-as :
@@ -51,7 +51,7 @@ module _
         withMate (withMate (mates f) k 0) j (suc i) c ≡ withMate (mates (set f j (i + 1))) k 0 c
     swapped f k c h d =
         with-swap (mates f) k j 0 (suc i) c d
-        ∙ with-agree (withMate (mates f) j (suc i)) (mates (set f j (i + 1))) k 0 c (sym (mates-set f j i c h))
+        ∙ with-cong (withMate (mates f) j (suc i)) (mates (set f j (i + 1))) k 0 c (sym (mates-set f j i c h))
 
     -- it is free
     free-won : mates mate j ≡ 0 → Won P μ i seen mate (set mate j (i + 1))

@@ -89,7 +89,7 @@ search-is-L4 G P μ inside sorted stands =
     ∙ k .size
     ∙ greatest-is-L4 P μ (mates (startsOf G (P .m) .mate)) inside (k .greatest)
 
--- the same of the arrays that the code is given: the list's pattern, whose rows rise, its rows' starts, and what each line leans to
+-- the arrays that the code is given: the list's pattern, whose rows rise, its rows' starts, and what each line leans to
 pub record Arrays (m n nonzeros : ℕ) (list lean starts : List ℕ) (μ : Marking) : Type 0 where
   pub few-rows : m ≤ 256
   pub few-columns : n ≤ 256

@@ -10,7 +10,6 @@ use lib.ListN.{length, getD, set}
 use lib.Seq.{getD-set-same, getD-set-other}
 use borrow.Author.Tests.{eqb-true, eqb-false}
 use native.Mathlib.Numerals.{add-one}
-use Rattle.counting.specs.Tests.{pick}
 use Rattle.counting.proofs.Joined.{by-test, clash, fails}
 use Rattle.model.specs.Pattern.{Pattern}
 use Rattle.model.specs.Marking.{Marking}
@@ -36,12 +35,6 @@ mates-set mate j i c h =
     ∙ ap (withMate (mates mate) j (suc i)) (sym q))
     (λ s. let d = eqb-false c j s in
     getD-set-other mate j c (i + 1) 0 d ∙ sym (with-other (mates mate) j (suc i) c d))
-
--- mates that agree on a column do once another gets a mate
-pub with-agree :
-    (f g : ℕ → ℕ) (j x c : ℕ) → f c ≡ g c → withMate f j x c ≡ withMate g j x c
-unfolding withMate
-with-agree f g j x c e = ap (pick (eqb c j) x) e
 
 -- column c is matched, and every column joined to its row is entered
 pub record Closed (P : Pattern) (μ : Marking) (mate seen : List ℕ) (c : ℕ) : Type 0 where

@@ -9,15 +9,7 @@ use lib.ListN.{length, getD, set}
 use Rattle.model.specs.Pattern.{columnIn}
 use Rattle.matching.specs.Augmenting.{Ground, Visited, visited, atOdds, unseen, mateRow, through, rowVia, handOver, columnStep, visitColumn, visitRow}
 use Rattle.matching.proofs.Visits.Steps.{through-skip, through-found, through-on, through-none, column-entered, column-free, column-held, hand-found, hand-not, not-entered, is-entered, unseen-set}
-use Rattle.matching.proofs.Visits.Enough.{visit-tame, row-tame, column-law}
-
--- the columns entered after a visit of a row: the array has its length
-pub row-long :
-    (G : Ground) (r : Bool) (i : ℕ) (seen mate s m : List ℕ) →
-    visited r s m ≡ visitRow G i seen mate → length s ≡ length seen
-unfolding visitRow
-row-long G r i seen mate s m e =
-    ap (λ (o : Visited). length (o .seen)) e ∙ row-tame G (visitColumn G) (visit-tame G) i seen mate .long
+use Rattle.matching.proofs.Visits.Enough.{visit-tame, column-law}
 
 -- and after a visit of a column
 pub column-long :

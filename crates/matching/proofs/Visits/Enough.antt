@@ -27,7 +27,7 @@ kept-then k l = record { fewer = omega (arith, k .fewer, l .fewer); long = l .lo
 kept-set : (seen : List ℕ) (j : ℕ) → entered seen j ≡ false → Kept seen (set seen j 1)
 kept-set seen j e = record { fewer = omega (arith, unseen-set seen j e); long = length-set seen j 1 }
 
--- the same of what a visit gives
+-- what is kept, by the visit that gives it
 kept-as : {seen : List ℕ} {o p : Visited} → o ≡ p → Kept seen (p .seen) → Kept seen (o .seen)
 kept-as {seen} e k = subst (λ (q : Visited). Kept seen (q .seen)) (sym e) k
 

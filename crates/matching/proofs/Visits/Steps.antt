@@ -9,7 +9,8 @@ use lib.Dec.{eqb, ltb}
 use lib.ListN.{getD, set, length}
 use borrow.Author.Tests.{ltb-false, eq-eqb, ne-eqb}
 use Rattle.counting.specs.Tests.{pick}
-use Rattle.counting.proofs.Joined.{no-way, by-test, clash, pick-true, pick-false, bit-true, bit-false}
+use Rattle.counting.proofs.Joined.{by-test, clash, pick-true, pick-false, bit-true, bit-false}
+use Rattle.counting.proofs.Lists.{getD-any}
 use Rattle.model.specs.Pattern.{columnIn}
 use Rattle.matching.specs.Augmenting.{Ground, Visited, visited, Visit, atOdds, entered, unseen, mateRow, elseGo, through, rowVia, handOver, columnStep}
 
@@ -97,22 +98,16 @@ pub hand-seen : (j i : ℕ) (o : Visited) → handOver j i o .seen ≡ o .seen
 unfolding handOver
 hand-seen j i o = refl
 
--- inside the array the default is not used
-getD-default : (xs : List ℕ) (j a b : ℕ) → j < length xs → getD xs j a ≡ getD xs j b
-getD-default [] j a b h = no-way (omega arith)
-getD-default (x ∷ xs) zero a b h = refl
-getD-default (x ∷ xs) (suc j) a b h = getD-default xs j a b (omega arith)
-
 -- a column of the array that holds 0 is not entered
 pub not-entered : (seen : List ℕ) (j : ℕ) → j < length seen → getD seen j 0 ≡ 0 → entered seen j ≡ false
 unfolding entered
-not-entered seen j h e = ap (ltb 0) (getD-default seen j 1 0 h ∙ e)
+not-entered seen j h e = ap (ltb 0) (getD-any seen j 1 0 h ∙ e)
 
 -- one that holds another number is
 pub is-entered : (seen : List ℕ) (j : ℕ) → j < length seen → (getD seen j 0 ≡ 0 → ⊥) → entered seen j ≡ true
 unfolding entered
 is-entered seen j h e =
-    ap (ltb 0) (getD-default seen j 1 0 h)
+    ap (ltb 0) (getD-any seen j 1 0 h)
     ∙ by-test
     (ltb 0 (getD seen j 0))
     (λ l. l)

@@ -90,7 +90,7 @@ pub record Chosen (P : Pattern) (μ : Marking) (used chosen : ℕ → Bool) (t :
   pub columns-apart :
       (s u : ℕ) → s < t → u < t → chosen s ≡ true → chosen u ≡ true → P .column s ≡ P .column u → s ≡ u
 
--- the same without the last nonzero
+-- conflicts so chosen, without the last nonzero
 chosen-before :
     (P : Pattern) (μ : Marking) (used chosen : ℕ → Bool) (t : ℕ) →
     Chosen P μ used chosen (suc t) → Chosen P μ used chosen t

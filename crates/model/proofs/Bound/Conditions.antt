@@ -13,7 +13,7 @@ use Rattle.model.specs.declared.Mark.the-variants.{Cut}
 use Rattle.model.specs.declared.Condition.{Condition}
 use Rattle.model.specs.declared.Condition.the-variants.{Marked, Torn, Leaning, Untouched}
 use Rattle.model.specs.Pattern.{Pattern}
-use Rattle.model.specs.Split.{other, samePart}
+use Rattle.model.specs.Split.{other}
 use Rattle.model.specs.Marking.{Marking, markNumber, unmarked, touched, conditionFor, condition}
 use Rattle.model.specs.Bound.{saysCut, saysTorn, saysLeaning, leans}
 
@@ -23,7 +23,7 @@ past-cut x = sym (ne-eqb (suc (suc (suc x))) (markNumber Cut) (λ e. omega arith
 
 -- marked cut, for a mark and two tests
 cut-for : (x : ℕ) (a b : Bool) → saysCut (conditionFor x a b) ≡ eqb x (markNumber Cut)
-unfolding saysCut conditionFor
+unfolding conditionFor
 cut-for zero a b = refl
 cut-for (suc zero) a b = refl
 cut-for (suc (suc zero)) a b = refl
@@ -48,7 +48,7 @@ record FreeLine (x : ℕ) (a b a′ b′ : Bool) : Type 0 where
   second : b ≡ b′
 
 torn-for : (x : ℕ) (a b : Bool) → saysTorn (conditionFor x a b) ≡ true → FreeLine x a b true true
-unfolding saysTorn conditionFor
+unfolding conditionFor
 torn-for zero a b h = clash h refl
 torn-for (suc zero) a b h = clash h refl
 torn-for (suc (suc zero)) a b h = clash h refl
@@ -58,7 +58,7 @@ torn-for (suc (suc (suc x))) false true h = clash h refl
 torn-for (suc (suc (suc x))) false false h = clash h refl
 
 lean-zero-for : (x : ℕ) (a b : Bool) → saysLeaning Zero (conditionFor x a b) ≡ true → FreeLine x a b true false
-unfolding saysLeaning conditionFor samePart
+unfolding saysLeaning conditionFor
 lean-zero-for zero a b h = clash h refl
 lean-zero-for (suc zero) a b h = clash h refl
 lean-zero-for (suc (suc zero)) a b h = clash h refl
@@ -68,7 +68,7 @@ lean-zero-for (suc (suc (suc x))) false true h = clash h refl
 lean-zero-for (suc (suc (suc x))) false false h = clash h refl
 
 lean-one-for : (x : ℕ) (a b : Bool) → saysLeaning One (conditionFor x a b) ≡ true → FreeLine x a b false true
-unfolding saysLeaning conditionFor samePart
+unfolding saysLeaning conditionFor
 lean-one-for zero a b h = clash h refl
 lean-one-for (suc zero) a b h = clash h refl
 lean-one-for (suc (suc zero)) a b h = clash h refl
@@ -108,7 +108,6 @@ leaning-line P μ One l h =
 
 -- a line marked cut is not torn
 pub cut-not-torn : (c : Condition) → saysCut c ≡ true → saysTorn c ≡ false
-unfolding saysCut saysTorn
 cut-not-torn (Marked mark) h = refl
 cut-not-torn Torn h = clash h refl
 cut-not-torn (Leaning p) h = refl
@@ -116,7 +115,7 @@ cut-not-torn Untouched h = refl
 
 -- a line marked cut does not lean
 pub cut-not-leaning : (p : Part) (c : Condition) → saysCut c ≡ true → saysLeaning p c ≡ false
-unfolding saysCut saysLeaning
+unfolding saysLeaning
 cut-not-leaning p (Marked mark) h = refl
 cut-not-leaning p Torn h = refl
 cut-not-leaning p (Leaning q) h = clash h refl
@@ -124,7 +123,7 @@ cut-not-leaning p Untouched h = refl
 
 -- a torn line does not lean
 pub torn-not-leaning : (p : Part) (c : Condition) → saysTorn c ≡ true → saysLeaning p c ≡ false
-unfolding saysTorn saysLeaning
+unfolding saysLeaning
 torn-not-leaning p (Marked mark) h = refl
 torn-not-leaning p Torn h = refl
 torn-not-leaning p (Leaning q) h = clash h refl
@@ -132,7 +131,7 @@ torn-not-leaning p Untouched h = refl
 
 -- a line leans to one part only
 pub leaning-once : (c : Condition) → saysLeaning Zero c ≡ true → saysLeaning One c ≡ false
-unfolding saysLeaning samePart
+unfolding saysLeaning
 leaning-once (Marked mark) h = refl
 leaning-once Torn h = refl
 leaning-once (Leaning Zero) h = refl

@@ -1,14 +1,14 @@
 -- A set of lines that holds a line of each conflict has at least L4 lines.
 -- Assumes nothing.
 use mathlib.Core.Bool.{Bool, true, false, not}
-use mathlib.Core.Path.{_≡_, refl, ap}
+use mathlib.Core.Path.{_≡_, ap}
 use mathlib.Core.Logic.{⊎-elim}
 use Prim.Native.Nat.{ℕ, zero, suc, _+_, _≤_, _<_}
 use native.Mathlib.Omega.{arith}
-use borrow.Author.Tests.{eq-eqb, not-true}
+use borrow.Author.Tests.{not-true}
 use Rattle.counting.specs.Tests.{_and_, _or_}
 use Rattle.counting.specs.Sums.{count}
-use Rattle.counting.proofs.Joined.{and-intro, and-left, and-right, and-fails-right, or-left, or-right, or-cases, or-fails-left}
+use Rattle.counting.proofs.Joined.{and-intro, and-left, and-right, and-fails-right, or-right, or-cases, or-fails-left}
 use Rattle.counting.proofs.Counted.{count-mono, count-less}
 use Rattle.model.specs.Pattern.{Pattern, Inside, lines, rowLine, columnLine, on}
 use Rattle.model.specs.Marking.{Marking}

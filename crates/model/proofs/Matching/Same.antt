@@ -31,24 +31,10 @@ matched-same P mate mate′ same =
     count-eq (λ j. ltb 0 (mate j)) (λ j. ltb 0 (mate′ j)) (P .n) (λ j b. ap (ltb 0) (same j b))
 
 -- where two mates of column c agree, they do once column j gets a mate
-with-cong :
+pub with-cong :
     (mate mate′ : ℕ → ℕ) (j x c : ℕ) → mate c ≡ mate′ c → withMate mate j x c ≡ withMate mate′ j x c
 unfolding withMate
 with-cong mate mate′ j x c e = ap (pick (eqb c j) x) e
-
--- a column that gets two mates keeps the second
-pub with-over :
-    (mate : ℕ → ℕ) (j x y c : ℕ) → withMate (withMate mate j x) j y c ≡ withMate mate j y c
-with-over mate j x y c =
-    by-test
-    (eqb c j)
-    (λ s. let q = eqb-true c j s in
-    ap (withMate (withMate mate j x) j y) q
-    ∙ with-same (withMate mate j x) j y
-    ∙ sym (with-same mate j y)
-    ∙ ap (withMate mate j y) (sym q))
-    (λ s. let d = eqb-false c j s in
-    with-other (withMate mate j x) j y c d ∙ with-other mate j x c d ∙ sym (with-other mate j y c d))
 
 -- two columns get their mates in either order
 pub with-swap :

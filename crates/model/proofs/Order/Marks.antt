@@ -1,23 +1,23 @@
 -- A marking of the first lines in order, as a marking of lines: what a beginning marks, and how many lines a full marking cuts.
 -- Assumes nothing.
-use mathlib.Core.Bool.{Bool, true, false}
+use mathlib.Core.Bool.{Bool, true}
 use mathlib.Core.List.{List, [], _∷_}
 use mathlib.Core.Path.{_≡_, refl, sym, _∙_, ap}
 use mathlib.Core.Logic.{⊎-elim}
-use Prim.Native.Nat.{ℕ, zero, suc, _+_, _≤_, _<_}
+use Prim.Native.Nat.{ℕ, _≤_, _<_}
 use native.Mathlib.Nat.{eq-or-lt-of-le, le-of-suc-le-suc}
 use native.Mathlib.Omega.{arith}
 use lib.Dec.{eqb, leb, ltb}
 use lib.ListN.{length}
-use borrow.Author.Tests.{leb-true, eqb-true, eqb-false, eq-eqb, ne-eqb, lt-ltb, ltb-true, ltb-false}
-use Rattle.counting.specs.Tests.{_and_, pick, bit}
-use Rattle.counting.specs.Sums.{sum, count}
-use Rattle.counting.proofs.Joined.{no-way, clash, by-test, and-left, and-right, pick-true, pick-false}
+use borrow.Author.Tests.{leb-true, eqb-true, eq-eqb, ne-eqb, ltb-true, ltb-false}
+use Rattle.counting.specs.Tests.{_and_, bit}
+use Rattle.counting.specs.Sums.{count}
+use Rattle.counting.proofs.Joined.{no-way, by-test, and-left, and-right, pick-true, pick-false}
 use Rattle.counting.proofs.Summed.{sum-suc, sum-none}
 use Rattle.counting.proofs.Counted.{count-eq}
-use Rattle.counting.proofs.Charged.{Injects, count-inj}
+use Rattle.counting.proofs.Charged.{count-inj}
 use Rattle.model.specs.declared.Mark.the-variants.{Cut}
-use Rattle.model.specs.Pattern.{Pattern, lines, nonempty, lineTotal}
+use Rattle.model.specs.Pattern.{Pattern, lines, lineTotal}
 use Rattle.model.specs.Marking.{Marking, markNumber, unmarked, place, markAt, marking}
 use Rattle.model.specs.Walk.{cuts}
 use Rattle.model.specs.State.{areMarks}

@@ -4,20 +4,19 @@ use mathlib.Core.Bool.{Bool, true, false, not}
 use mathlib.Core.List.{List, [], _∷_}
 use mathlib.Core.Path.{_≡_, refl, sym, _∙_, ap}
 use mathlib.Core.Logic.{_⊎_, inl, inr, ⊎-elim}
-use Prim.Native.Nat.{ℕ, zero, suc, _+_, _≤_, _<_}
+use Prim.Native.Nat.{ℕ, zero, suc, _≤_, _<_}
 use native.Mathlib.Omega.{arith}
 use lib.Dec.{eqb, ltb}
-use borrow.Author.Tests.{eq-eqb, ne-eqb, eqb-true, eqb-false}
+use borrow.Author.Tests.{eqb-true}
 use Rattle.counting.specs.Tests.{_and_, _or_}
-use Rattle.counting.specs.Sums.{count, any}
-use Rattle.counting.proofs.Joined.{no-way, clash, by-test, both-ways, and-intro, and-left, and-right, or-left, or-right, or-fails-left, or-fails-right}
-use Rattle.counting.proofs.Counted.{count-eq, any-intro, any-elim}
+use Rattle.counting.specs.Sums.{any}
+use Rattle.counting.proofs.Joined.{clash, by-test, and-intro, or-left, or-right, or-fails-left, or-fails-right, and-turned}
+use Rattle.counting.proofs.Counted.{count-eq}
 use Rattle.model.specs.declared.Part.{Part}
 use Rattle.model.specs.declared.Part.the-variants.{Zero, One}
-use Rattle.model.specs.declared.Mark.the-variants.{To, Cut}
 use Rattle.model.specs.Pattern.{Pattern, Inside, lines, on, nonempty, lineTotal}
 use Rattle.model.specs.Split.{Split, Meets, other, samePart, holds, isCut, volume, load}
-use Rattle.model.specs.Marking.{Marking, markNumber}
+use Rattle.model.specs.Marking.{Marking}
 use Rattle.model.specs.Walk.{Rules, cuts, givesPart, oneAllowed}
 use Rattle.model.specs.State.{stack, startsWithZero}
 use Rattle.model.proofs.Split.Volume.{volume-is-cuts, nonempty-held}
@@ -31,7 +30,7 @@ unfoldable pub mirrored : Split → Split
 mirrored σ t = other (σ t)
 
 same-other-way : (p q : Part) → samePart p (other q) ≡ samePart (other p) q
-unfolding samePart other
+unfolding other
 same-other-way Zero Zero = refl
 same-other-way Zero One = refl
 same-other-way One Zero = refl
@@ -67,13 +66,6 @@ mirrored-holds P σ p l =
     (λ t. on P l t and samePart (other p) (σ t))
     (P .size)
     (λ t b. ap (λ (x : Bool). on P l t and x) (same-other-way p (σ t))))
-
-and-turned : (a b : Bool) → a and b ≡ b and a
-unfolding _and_
-and-turned true true = refl
-and-turned true false = refl
-and-turned false true = refl
-and-turned false false = refl
 
 mirrored-cut : (P : Pattern) (σ : Split) (l : ℕ) → isCut P (mirrored σ) l ≡ isCut P σ l
 unfolding isCut other

@@ -1,27 +1,24 @@
 -- The rules of a pattern and a cap are sound, and so are those with any bound from L1 up to the bound.
 -- Assumes nothing.
-use mathlib.Core.Bool.{Bool, true, false}
-use mathlib.Core.List.{List, [], _∷_}
-use mathlib.Core.Path.{_≡_, refl, _∙_, ap}
-use mathlib.Core.Logic.{⊎-elim}
-use Prim.Native.Nat.{ℕ, zero, suc, _≤_, _<_}
-use native.Mathlib.Nat.{le-trans}
+use mathlib.Core.Bool.{true, false}
+use mathlib.Core.List.{List, _∷_}
+use mathlib.Core.Path.{_≡_, ap}
+use Prim.Native.Nat.{ℕ, zero, suc, _≤_}
 use native.Mathlib.Omega.{arith}
 use lib.Dec.{eqb}
 use lib.ListN.{length, replicate}
 use borrow.Author.Tests.{eqb-true, eqb-false, ne-eqb}
-use Rattle.counting.specs.Sums.{count}
-use Rattle.counting.proofs.Joined.{no-way, clash, by-test, or-fails}
+use Rattle.counting.proofs.Joined.{no-way, by-test, or-fails}
 use Rattle.counting.proofs.Counted.{count-none}
 use Rattle.model.specs.declared.Part.{Part}
 use Rattle.model.specs.declared.Part.the-variants.{Zero, One}
-use Rattle.model.specs.declared.Mark.the-variants.{To, Cut}
-use Rattle.model.specs.Pattern.{Pattern, Inside, lines, rowLine, columnLine, lineTotal}
-use Rattle.model.specs.Marking.{Marking, markNumber, unmarked, place, markAt, marking, takes, valid}
+use Rattle.model.specs.declared.Mark.the-variants.{To}
+use Rattle.model.specs.Pattern.{Pattern, Inside, rowLine, columnLine, lineTotal}
+use Rattle.model.specs.Marking.{Marking, markNumber, place, markAt, marking, takes, valid}
 use Rattle.model.specs.Bound.{L1, bound}
-use Rattle.model.specs.Walk.{Rules, rulesOf, cuts}
-use Rattle.model.proofs.Walk.Sound.{Begins, Full, Sound}
-use Rattle.model.proofs.Bound.Validity.{Valid, is-valid}
+use Rattle.model.specs.Walk.{Rules, rulesOf}
+use Rattle.model.proofs.Walk.Sound.{Sound}
+use Rattle.model.proofs.Bound.Validity.{is-valid}
 use Rattle.model.proofs.Bound.Extended.{valid-begins, bound-below-marking}
 use Rattle.model.proofs.Bound.WithoutL4.{L1-is, L1-below-bound}
 use Rattle.model.proofs.Order.Marks.{mark-none, mark-last, mark-other, cutLine, begins-extends, full-marks, cut-lines-most, cut-lines-least}

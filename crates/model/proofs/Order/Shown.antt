@@ -3,21 +3,21 @@
 use mathlib.Core.Bool.{Bool, true, false, not}
 use mathlib.Core.List.{List}
 use mathlib.Core.Path.{_≡_, refl, sym, _∙_, ap}
-use mathlib.Core.Logic.{_⊎_, inl, inr, ⊎-elim}
+use mathlib.Core.Logic.{_⊎_, ⊎-elim}
 use Prim.Native.Nat.{ℕ, zero, suc, _+_, _*_, _≤_, _<_}
 use native.Mathlib.Omega.{arith}
 use lib.Dec.{eqb, ltb}
 use lib.ListN.{length}
-use borrow.Author.Tests.{ltb-true, ltb-false, lt-ltb, eqb-true}
+use borrow.Author.Tests.{ltb-true, ltb-false, lt-ltb}
 use Rattle.counting.specs.Tests.{_and_, _or_, pick, bit}
-use Rattle.counting.specs.Sums.{sum, count}
-use Rattle.counting.proofs.Joined.{no-way, clash, by-test, passes, fails, and-left, and-right, pick-true, pick-false, bit-true, bit-false, bit-le-one}
+use Rattle.counting.specs.Sums.{count}
+use Rattle.counting.proofs.Joined.{clash, by-test, passes, fails, and-left, and-right, pick-true, pick-false, bit-true, bit-false}
 use Rattle.counting.proofs.Summed.{sum-suc, sum-none, sum-add, sum-eq}
 use Rattle.counting.proofs.Counted.{count-mono, count-all}
 use Rattle.model.specs.declared.Part.{Part}
 use Rattle.model.specs.declared.Part.the-variants.{Zero, One}
 use Rattle.model.specs.declared.Mark.the-variants.{To, Cut}
-use Rattle.model.specs.Pattern.{Pattern, Inside, lines, on, nonempty, lineTotal}
+use Rattle.model.specs.Pattern.{Pattern, lines, lineTotal}
 use Rattle.model.specs.Split.{Split, Meets, samePart, holds, isCut, volume, load}
 use Rattle.model.specs.Marking.{Marking, markNumber, marking, takes, taken, valid}
 use Rattle.model.specs.Bound.{untaken}
@@ -30,7 +30,7 @@ use Rattle.model.proofs.Bound.Extended.{Marks, marked-takes, part-mark}
 use Rattle.model.proofs.Order.Marks.{cutLine, full-marks, cut-lines-most}
 
 one-part : (q : Part) → bit (samePart Zero q) + bit (samePart One q) ≡ 1
-unfolding bit samePart
+unfolding bit
 one-part Zero = refl
 one-part One = refl
 
@@ -68,7 +68,7 @@ with-room false h = refl
 shown-zero :
     (zero one room : Bool) → (zero ≡ true → one ≡ false) →
     bit (samePart Zero (pick zero Zero (pick one One (pick room Zero One)))) ≡ bit zero + bit (not (zero or one) and room)
-unfolding bit samePart pick _or_ _and_
+unfolding bit pick _or_ _and_
 shown-zero true true room h = clash refl (h refl)
 shown-zero true false room h = refl
 shown-zero false true room h = refl

@@ -1,20 +1,20 @@
 -- The marking of a split: every line with nonzeros is cut, or has the part that holds all of them.
 -- Assumes nothing.
 use mathlib.Core.Bool.{Bool, true, false}
-use mathlib.Core.List.{List, [], _∷_}
+use mathlib.Core.List.{List, _∷_}
 use mathlib.Core.Path.{_≡_, refl, sym, _∙_, ap}
-use mathlib.Core.Logic.{_⊎_, inl, inr, ⊎-elim}
-use Prim.Native.Nat.{ℕ, zero, suc, _+_, _≤_, _<_}
+use mathlib.Core.Logic.{_⊎_, ⊎-elim}
+use Prim.Native.Nat.{ℕ, zero, suc, _≤_, _<_}
 use native.Mathlib.Nat.{eq-or-lt-of-le, le-of-suc-le-suc}
 use native.Mathlib.Omega.{arith}
-use lib.Dec.{eqb, leb}
+use lib.Dec.{eqb}
 use lib.ListN.{length}
-use borrow.Author.Tests.{eqb-true, eq-eqb, le-leb}
-use Rattle.counting.specs.Tests.{_and_, _or_, pick}
+use borrow.Author.Tests.{eqb-true, le-leb}
+use Rattle.counting.specs.Tests.{_and_, _or_}
 use Rattle.counting.specs.Sums.{count}
-use Rattle.counting.proofs.Joined.{no-way, clash, by-test, fails, and-intro, or-cases, pick-true, pick-false}
+use Rattle.counting.proofs.Joined.{no-way, clash, fails, and-intro, or-cases}
 use Rattle.counting.proofs.Counted.{count-mono}
-use Rattle.counting.proofs.Charged.{Injects, count-inj}
+use Rattle.counting.proofs.Charged.{count-inj}
 use Rattle.model.specs.declared.Part.{Part}
 use Rattle.model.specs.declared.Part.the-variants.{Zero, One}
 use Rattle.model.specs.declared.Mark.the-variants.{To, Cut}
@@ -26,7 +26,7 @@ use Rattle.model.specs.State.{stack, areMarks}
 use Rattle.model.proofs.Split.Lines.{on-row, on-column, row-line-in, column-line-in}
 use Rattle.model.proofs.Split.Parts.{same-of-eq, two-parts, holds-intro, part-fits}
 use Rattle.model.proofs.Split.Volume.{on-nonempty, volume-is-cuts}
-use Rattle.model.proofs.Bound.Validity.{Valid, is-valid}
+use Rattle.model.proofs.Bound.Validity.{is-valid}
 use Rattle.model.proofs.Order.Places.{place-below, lineAt, line-at, at-place}
 use Rattle.model.proofs.Order.Marks.{mark-last, mark-other, cutAt, cuts-are}
 

@@ -14,7 +14,6 @@ use Rattle.model.specs.Split.{Split, Meets, partNumber, other, samePart,
 
 -- a part is the same as itself
 pub same-refl : (p : Part) → samePart p p ≡ true
-unfolding samePart
 same-refl Zero = refl
 same-refl One = refl
 
@@ -24,7 +23,6 @@ same-of-eq p q e = ap (samePart p) e ∙ same-refl p
 
 -- parts that are the same are equal
 pub same-is : (p q : Part) → samePart p q ≡ true → p ≡ q
-unfolding samePart
 same-is Zero Zero h = refl
 same-is Zero One h = clash h refl
 same-is One Zero h = clash h refl
@@ -32,7 +30,7 @@ same-is One One h = refl
 
 -- a part that is not the same is the other
 pub same-other : (p q : Part) → samePart p q ≡ false → samePart (other p) q ≡ true
-unfolding samePart other
+unfolding other
 same-other Zero Zero h = clash refl h
 same-other Zero One h = refl
 same-other One Zero h = refl
@@ -44,7 +42,6 @@ two-parts e = let z : _≡_ {A = ℕ} 0 1 = ap partNumber e in no-way (omega ari
 
 -- a part is not the same as both
 pub same-once : (q : Part) → samePart Zero q ≡ true → samePart One q ≡ false
-unfolding samePart
 same-once Zero h = refl
 same-once One h = clash h refl
 

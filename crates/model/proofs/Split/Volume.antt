@@ -1,13 +1,13 @@
 -- The published volume of a split is its number of cut lines, and the sum of what its lines add.
 -- Assumes nothing.
 use mathlib.Core.Bool.{Bool, true, false}
-use mathlib.Core.Path.{_≡_, refl, sym, _∙_, ap}
+use mathlib.Core.Path.{_≡_, refl, sym, _∙_}
 use mathlib.Core.Logic.{_⊎_, inl, inr, ⊎-elim}
 use Prim.Native.Nat.{ℕ, _+_, _-_, _<_}
 use native.Mathlib.Omega.{arith}
 use borrow.Author.Tests.{ltb-true, lt-ltb}
-use Rattle.counting.specs.Tests.{_and_, pick, bit}
-use Rattle.counting.specs.Sums.{sum, count, any}
+use Rattle.counting.specs.Tests.{_and_, bit}
+use Rattle.counting.specs.Sums.{sum, count}
 use Rattle.counting.proofs.Joined.{by-test, clash, fails, and-left, and-right, pick-true, pick-false, bit-true, bit-false}
 use Rattle.counting.proofs.Summed.{sum-eq, sum-add}
 use Rattle.counting.proofs.Counted.{count-some, witness, any-elim}

@@ -35,11 +35,6 @@ pub open-done : (r : Record) → r .complete ≡ true → openMarkings r ≡ []
 unfolding openMarkings pick
 open-done r done = rw done refl
 
--- the open markings after a try
-open-tried : (r : Record) (next : List ℕ) → openMarkings (tried r next) ≡ openBehind next
-unfolding openMarkings tried openBehind
-open-tried r next = refl
-
 -- what is settled stays settled where the trail grows
 grown-settles : {R : Rules} (count : ℕ) (τ : List ℕ) {ν : List ℕ} → Full R ν → length τ < R .k
     → Settled count (τ ∷ beginningsLater τ) ν → Settled count (openBehind (0 ∷ τ)) ν

@@ -7,7 +7,7 @@ use native.Mathlib.Omega.{arith}
 use lib.ListN.{length}
 use Rattle.model.specs.Walk.{Record, Rules, fresh, advance, isEmpty, tried, improved, tryOnce, step, walk}
 use Rattle.counting.proofs.Joined.{no-way, clash}
-use Rattle.model.proofs.Walk.Steps.{after, try-keeps, step-stays, step-tries, walk-keeps, walk-adds, complete-stays}
+use Rattle.model.proofs.Walk.Steps.{after, try-keeps, step-stays, step-tries, walk-keeps}
 use Rattle.model.proofs.Walk.Left.{size, later, left, three-sizes, advance-length, gives-up-left, grows-left, some-left}
 
 -- a record whose tries, with the markings left, are at most three sizes
@@ -129,9 +129,3 @@ pub ends : (R : Rules) (m n nonzeros cap : ℕ)
 ends R m n nonzeros cap =
     subst (λ (tries : ℕ). after R m n nonzeros cap tries .complete ≡ true) (three-sizes (R .k))
     (paced-ends R _ (walk-paced R m n nonzeros cap (3 * size (R .k))) (tries-all R m n nonzeros cap (3 * size (R .k))))
-
--- a walk of more tries is complete too, with the same record
-pub ends-same : (R : Rules) (m n nonzeros cap more : ℕ)
-    → after R m n nonzeros cap ((3 ^ (R .k + 1) - 3) / 2 + more) ≡ after R m n nonzeros cap ((3 ^ (R .k + 1) - 3) / 2)
-ends-same R m n nonzeros cap more =
-    walk-adds R _ more _ ∙ complete-stays R more _ (ends R m n nonzeros cap)

@@ -32,46 +32,14 @@ first-is :
     let a = c .before .before .before .before .before .before .before .before .args in
     c .before .takes-by .result ≡ takes (patternOf (a .m) (a .n) (a .nonzeros) (a .list .now)) (markingIn (a .marks .now)) Zero (c .before .before .before .before .before .loop .t)
 first-is c =
-    let a = c .before .before .before .before .before .before .before .before .args in
-    takes-code
-    (a .m)
-    (a .n)
-    (a .nonzeros)
-    (a .list .now)
-    (a .marks .now)
-    Zero
-    (c .before .before .before .before .before .loop .t)
-    (c .before .before .before .row-of .result)
-    (c .before .before .column-of .result)
-    0
-    (c .before .takes-by .result)
-    (c .before .before .before .row-of .ensures)
-    (c .before .before .column-of .ensures)
-    refl
-    (c .before .takes-by .ensures)
+    takes-code _ _ _ _ _ Zero _ _ _ 0 _ (c .before .before .before .row-of .ensures) (c .before .before .column-of .ensures) refl (c .before .takes-by .ensures)
 
 second-is :
     (c : tie.After-takes-by2 Inv-loop μ-loop) →
     let a = c .before .before .before .before .before .before .before .before .args in
     c .takes-by2 .result ≡ takes (patternOf (a .m) (a .n) (a .nonzeros) (a .list .now)) (markingIn (a .marks .now)) One (c .before .before .before .before .before .loop .t)
 second-is c =
-    let a = c .before .before .before .before .before .before .before .before .args in
-    takes-code
-    (a .m)
-    (a .n)
-    (a .nonzeros)
-    (a .list .now)
-    (a .marks .now)
-    One
-    (c .before .before .before .before .before .loop .t)
-    (c .before .before .before .row-of .result)
-    (c .before .before .column-of .result)
-    1
-    (c .takes-by2 .result)
-    (c .before .before .before .row-of .ensures)
-    (c .before .before .column-of .ensures)
-    refl
-    (c .takes-by2 .ensures)
+    takes-code _ _ _ _ _ One _ _ _ 1 _ (c .before .before .before .row-of .ensures) (c .before .before .column-of .ensures) refl (c .takes-by2 .ensures)
 
 loop-holds : tie.Need-loop-holds Inv-loop μ-loop
 loop-holds c =

@@ -4,7 +4,6 @@ use super::put_figure;
 use super::put_number;
 use model::Word;
 use pattern::refusals::refusal_number;
-ghost use mathlib.Core.Path.{_≡_};
 ghost use Rattle.writing.specs.Written.{Puts};
 ghost use Rattle.writing.specs.Lines.{refusedText, noneText};
 

@@ -3,13 +3,13 @@
 use native.Mathlib.Omega.{arith}
 use borrow.Author.Tests.{not-true, not-false}
 use Rattle.counting.proofs.Joined.{no-way}
-use Rattle.answering.proofs.Steps.{order-other, order-text, order-room}
+use Rattle.answering.proofs.Steps.{command-other, command-text, command-room}
 use borrow.Author.Needs.{needs}
 use Rattle.answering.proofs.splitting.answer.Statement.{statement}
 use Rattle.answering.proofs.splitting.answer.Tie as tie
 
-order-of-requires : tie.Need-order-of-requires
-order-of-requires c κs = search needs
+command-of-requires : tie.Need-command-of-requires
+command-of-requires c κs = search needs
 
 put-refused-requires : tie.Need-put-refused-requires
 put-refused-requires c κs = search needs
@@ -19,9 +19,9 @@ same-length c = search needs
 
 returns : tie.Need-returns
 returns c =
-    let order = c .before .before .before .before .before .before in
-    let a = order .before .before .before .args in
-    order-other (a .input .now) (a .out .now) _ _ (order .order-of .result) (order .order-of .ensures) (not-true _ (c .before .before .before .before .if1 .taken)) (c .before .before .put-refused .ensures)
+    let command = c .before .before .before .before .before .before in
+    let a = command .before .before .before .args in
+    command-other (a .input .now) (a .out .now) _ _ (command .command-of .result) (command .command-of .ensures) (not-true _ (c .before .before .before .before .if1 .taken)) (c .before .before .put-refused .ensures)
 
 put-refused-requires-2 : tie.Need-put-refused-requires-2
 put-refused-requires-2 c κs = search needs
@@ -31,9 +31,9 @@ same-length-2 c = search needs
 
 returns-2 : tie.Need-returns-2
 returns-2 c =
-    let order = c .before .before .before .before .before .before .before in
-    let a = order .before .before .before .args in
-    no-way (omega (arith, order-room (a .input .now) (a .out .now) (a .out .now) 0 (order .order-of .result) (order .order-of .ensures) (not-false _ (c .before .before .before .before .before .if1 .left)), c .before .before .before .before .if2 .taken))
+    let command = c .before .before .before .before .before .before .before in
+    let a = command .before .before .before .args in
+    no-way (omega (arith, command-room (a .input .now) (a .out .now) (a .out .now) 0 (command .command-of .result) (command .command-of .ensures) (not-false _ (c .before .before .before .before .before .if1 .left)), c .before .before .before .before .if2 .taken))
 
 part-text-start : tie.Need-part-text-start
 part-text-start c = search needs
@@ -55,15 +55,15 @@ same-length-3 c = search needs
 
 returns-3 : tie.Need-returns-3
 returns-3 c =
-    let order = c .before .before .before .before .before .before .before .before .before .before in
-    let a = order .before .before .before .args in
-    order-text (a .input .now) (a .out .now) _ _ (order .order-of .result) (order .order-of .ensures) (not-false _ (c .before .before .before .before .before .before .before .before .if1 .left)) (c .before .before .put-text .ensures)
+    let command = c .before .before .before .before .before .before .before .before .before .before in
+    let a = command .before .before .before .args in
+    command-text (a .input .now) (a .out .now) _ _ (command .command-of .result) (command .command-of .ensures) (not-false _ (c .before .before .before .before .before .before .before .before .if1 .left)) (c .before .before .put-text .ensures)
 
 pub answer-spec : {M : Type 1} → statement M
 answer-spec =
     tie.close
     (tie.spec
-    order-of-requires
+    command-of-requires
     put-refused-requires
     same-length
     returns

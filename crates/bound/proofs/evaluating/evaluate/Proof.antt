@@ -1,6 +1,7 @@
 -- `bound::evaluating::evaluate` meets its contract.
 -- Assumes nothing.
 use borrow.Author.Needs.{needs}
+use native.Mathlib.Omega.{arith}
 use Rattle.model.specs.Pattern.{patternOf}
 use Rattle.model.specs.Marking.{marking}
 use Rattle.weighing.specs.Cells.{markingIn}
@@ -9,8 +10,11 @@ use Rattle.bound.proofs.Evaluations.{by-line}
 use Rattle.bound.proofs.evaluating.evaluate.Statement.{statement}
 use Rattle.bound.proofs.evaluating.evaluate.Tie as tie
 
-marks-of-requires : tie.Need-marks-of-requires
-marks-of-requires c κs = search needs
+lines-of-requires : tie.Need-lines-of-requires
+lines-of-requires c κs = search needs
+
+marks-by-line-requires : tie.Need-marks-by-line-requires
+marks-by-line-requires c κs = search needs
 
 evaluate-lines-requires : tie.Need-evaluate-lines-requires
 evaluate-lines-requires c κs = search needs
@@ -18,8 +22,10 @@ evaluate-lines-requires c κs = search needs
 returns : tie.Need-returns
 returns c = λ k placed τ short em el.
     let f = c .before .before in
-    let a = f .before .before .args in
-    let entries = f .marks-of .result in
+    let total = f .before .lines-of in
+    let s = f .before .before .before in
+    let a = s .args in
+    let entries = f .marks-by-line .result in
     evaluates-same
     (patternOf (a .m) (a .n) (a .nonzeros) (a .list .now))
     (markingIn entries)
@@ -34,7 +40,10 @@ returns c = λ k placed τ short em el.
     (a .marks .now)
     entries
     (a .len)
-    (f .marks-of .ensures)
+    (total .result)
+    (total .ensures)
+    (omega (arith, total .ensures, s .fits))
+    (f .marks-by-line .ensures)
     placed
     τ
     short
@@ -45,4 +54,4 @@ returns c = λ k placed τ short em el.
     (c .evaluate-lines .ensures k)
 
 pub evaluate-spec : {M : Type 1} → statement M
-evaluate-spec = tie.close (tie.spec marks-of-requires evaluate-lines-requires returns)
+evaluate-spec = tie.close (tie.spec lines-of-requires marks-by-line-requires evaluate-lines-requires returns)

@@ -4,7 +4,7 @@ use borrow.Author.Needs.{needs}
 use mathlib.Core.Path.{sym, _∙_}
 use Rattle.model.specs.Pattern.{patternOf}
 use Rattle.weighing.specs.Cells.{markingIn}
-use Rattle.bound.proofs.Evaluations.{not-valid}
+use Rattle.bound.proofs.Evaluations.{none-cleared, not-valid}
 use Rattle.bound.proofs.evaluating.evaluate_lines.Statement.{statement}
 use Rattle.bound.proofs.evaluating.evaluate_lines.Tie as tie
 
@@ -36,8 +36,8 @@ returns c = λ k.
     record {
       zero₀ = e .before .no-lines .result;
       one₀ = e .no-lines2 .result;
-      zero-clear = e .before .no-lines .ensures;
-      one-clear = e .no-lines2 .ensures;
+      zero-clear = none-cleared _ (e .before .no-lines .ensures);
+      one-clear = none-cleared _ (e .no-lines2 .ensures);
       takes-all = t .take-lines .ensures;
     }
     (sym (v .before .is-valid .ensures) ∙ v .if1 .taken)
@@ -63,6 +63,7 @@ returns-2 c = λ k.
     (c .invalid .ensures .0)
     (c .invalid .ensures .1)
     (c .invalid .ensures .2)
+    (c .invalid .ensures .3)
 
 pub evaluate-lines-spec : {M : Type 1} → statement M
 evaluate-lines-spec =

@@ -1,10 +1,11 @@
 -- `bound::evaluating::joined` meets its contract.
 -- Assumes nothing.
 use borrow.Author.Needs.{needs}
-use mathlib.Core.Path.{_≡_, sym}
+use mathlib.Core.Path.{_≡_, refl, sym}
 use mathlib.Core.Logic.{⊎-elim}
 use Prim.Native.Nat.{_+_, max}
 use native.Mathlib.Omega.{arith}
+use Rattle.counting.proofs.Joined.{clash}
 use Rattle.bound.proofs.Evaluations.{bound-sum, sum-second, sum-first}
 use Rattle.bound.proofs.evaluating.joined.Statement.{statement}
 use Rattle.bound.proofs.evaluating.joined.Tie as tie
@@ -51,6 +52,7 @@ returns c = λ P cap μ p.
       struck-is = λ v. p .struck-is;
       matched-is = λ v. p .matched-is;
       bound-is = λ v. bound-sum _ p sum;
+      none = λ v. clash refl v;
     }
 
 pub joined-spec : {M : Type 1} → statement M

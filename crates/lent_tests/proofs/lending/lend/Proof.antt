@@ -104,7 +104,7 @@ module _ {M : Type 1} (𝓤 : URA M) (H : Heap 𝓤) (A : Atoms 𝓤) (W : Given
   abbrev Post : Val → SProp 𝓤
   Post = walkOf 𝓤 H A lend.ended stayed (lend.clauses 𝓤 H A at-mem run) .post (((κ, tt), (q, tt), tt, x, at), tt)
 
-  -- they have their types
+  -- machine values have their types
   typed-search : (s : Search) → Is T.the-row s (mach s ∷ []) → Holds (hasTy T′.mir (mach s)) × WT (mach s)
   typed-search s g = LL.lawful T.the-type T′.the-laws 𝓤 H A W .typed s _ g .0
 

@@ -1,7 +1,8 @@
 -- `pattern::and_then` meets its contract. In the first arm the tag says that nothing is refused.
 -- Assumes nothing.
 use mathlib.Core.Path.{sym}
-use Rattle.pattern.proofs.Verdicts.{accepted-tag, then-accepted, then-refused}
+use Rattle.model.proofs.Theorems.Checks.{then-accepted, then-refused}
+use Rattle.pattern.proofs.Verdicts.{accepted-tag}
 use borrow.Author.Needs.{needs}
 use Rattle.pattern.proofs.checks.and_then.Statement.{statement}
 use Rattle.pattern.proofs.checks.and_then.Tie as tie

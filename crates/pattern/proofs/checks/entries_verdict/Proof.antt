@@ -5,8 +5,9 @@ use native.Mathlib.Omega.{arith}
 use Prim.Native.Nat.{_≤_, _-_}
 use Rattle.model.specs.declared.Verdict.the-variants.{Accepted}
 use Rattle.model.specs.Calls.{entryVerdict}
-use Rattle.pattern.specs.Checks.{eachVerdict}
-use Rattle.pattern.proofs.Verdicts.{accepted-tag, each-more, each-stop, entries-each}
+use Rattle.model.specs.Refusal.{eachVerdict}
+use Rattle.model.proofs.Theorems.Checks.{each-more, each-stop}
+use Rattle.pattern.proofs.Verdicts.{accepted-tag}
 use borrow.Author.Needs.{needs}
 use Rattle.pattern.proofs.checks.entries_verdict.Statement.{statement}
 use Rattle.pattern.proofs.checks.entries_verdict.Tie as tie
@@ -42,8 +43,7 @@ enum-known-v c = search needs
 returns : tie.Need-returns Inv-loop μ-loop
 returns c =
     sym
-    (entries-each _ _ _ _
-    ∙ each-stop
+    (each-stop
     _
     _
     _
@@ -57,7 +57,7 @@ returns-2 : tie.Need-returns-2 Inv-loop μ-loop
 returns-2 c =
     let a = c .before .before .before .args in
     let e : a .nonzeros ≡ c .before .loop .t = omega arith in
-    sym (entries-each _ _ _ _ ∙ ap (eachVerdict (entryVerdict (a .m) (a .n) (a .list .now))) e ∙ c .before .loop .inv .1)
+    sym (ap (eachVerdict (entryVerdict (a .m) (a .n) (a .list .now))) e ∙ c .before .loop .inv .1)
 
 pub entries-verdict-spec : {M : Type 1} → statement M
 entries-verdict-spec =

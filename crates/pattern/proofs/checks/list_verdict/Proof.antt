@@ -5,7 +5,8 @@ use native.Mathlib.Omega.{arith}
 use Rattle.model.specs.declared.Verdict.the-variants.{Accepted}
 use Rattle.model.specs.Calls.{sizesVerdict, listReplies}
 use Rattle.model.proofs.Theorems.Replies.{verdict-told}
-use Rattle.pattern.proofs.Verdicts.{accepted-tag, nonzeros-small, list-sizes, list-short, list-entries}
+use Rattle.model.proofs.Theorems.Checks.{nonzeros-small}
+use Rattle.pattern.proofs.Verdicts.{accepted-tag, list-sizes, list-short, list-entries}
 use borrow.Author.Needs.{needs}
 use Rattle.pattern.proofs.checks.list_verdict.Statement.{statement}
 use Rattle.pattern.proofs.checks.list_verdict.Tie as tie

@@ -3,7 +3,9 @@
 use mathlib.Core.Path.{sym, _∙_}
 use native.Mathlib.Omega.{arith}
 use native.Mathlib.Nat.{mul-le-mul}
-use Rattle.pattern.proofs.Verdicts.{rows-refused, columns-refused, nonzeros-refused, room-refused, sizes-fine, inside-limit}
+use Rattle.model.proofs.Theorems.Checks.{in-range}
+use Rattle.pattern.proofs.Verdicts.{rows-refused, columns-refused, nonzeros-refused, room-refused, sizes-fine}
+use Rattle.model.specs.Limits.{lineLimit}
 use borrow.Author.Needs.{needs}
 use Rattle.pattern.proofs.checks.sizes_verdict.Statement.{statement}
 use Rattle.pattern.proofs.checks.sizes_verdict.Tie as tie
@@ -25,9 +27,9 @@ returns-3 c = sym (nonzeros-refused _ _ _ (c .if3 .taken))
 
 mul-if4 : tie.Need-mul-if4
 mul-if4 c =
-    let rows = inside-limit _ (sym (c .before .before .before .before .outside-lines .ensures) ∙ c .before .before .before .if1 .left) in
-    let columns = inside-limit _ (sym (c .before .before .outside-lines2 .ensures) ∙ c .before .if2 .left) in
-    omega (arith, mul-le-mul rows columns)
+    let rows = in-range lineLimit _ (sym (c .before .before .before .before .outside-lines .ensures) ∙ c .before .before .before .if1 .left) in
+    let columns = in-range lineLimit _ (sym (c .before .before .outside-lines2 .ensures) ∙ c .before .if2 .left) in
+    omega (arith, mul-le-mul (rows .1) (columns .1))
 
 returns-4 : tie.Need-returns-4
 returns-4 c = sym (room-refused _ _ _ (c .if4 .taken))

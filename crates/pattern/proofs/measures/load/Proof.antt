@@ -4,7 +4,8 @@ use mathlib.Core.Path.{_≡_, sym, _∙_}
 use native.Mathlib.Omega.{arith}
 use Rattle.model.specs.declared.Verdict.the-variants.{Accepted}
 use Rattle.pattern.specs.Measures.{measureVerdict, loadCall, loadReplies}
-use Rattle.pattern.proofs.Verdicts.{accepted-tag, nonzeros-small}
+use Rattle.model.proofs.Theorems.Checks.{nonzeros-small}
+use Rattle.pattern.proofs.Verdicts.{accepted-tag}
 use Rattle.pattern.proofs.Answers.{measured-told, measure-sizes, load-value, load-refused}
 use borrow.Author.Needs.{needs}
 use Rattle.pattern.proofs.measures.load.Statement.{statement}

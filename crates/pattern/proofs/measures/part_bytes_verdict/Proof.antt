@@ -4,9 +4,10 @@ use mathlib.Core.Path.{_≡_, refl, sym, _∙_, ap}
 use native.Mathlib.Omega.{arith}
 use Prim.Native.Nat.{_≤_, _-_}
 use Rattle.model.specs.declared.Verdict.the-variants.{Accepted}
-use Rattle.pattern.specs.Checks.{eachVerdict}
+use Rattle.model.specs.Refusal.{eachVerdict}
 use Rattle.pattern.specs.Measures.{partVerdict}
-use Rattle.pattern.proofs.Verdicts.{accepted-tag, each-more, each-stop}
+use Rattle.model.proofs.Theorems.Checks.{each-more, each-stop}
+use Rattle.pattern.proofs.Verdicts.{accepted-tag}
 use borrow.Author.Needs.{needs}
 use Rattle.pattern.proofs.measures.part_bytes_verdict.Statement.{statement}
 use Rattle.pattern.proofs.measures.part_bytes_verdict.Tie as tie

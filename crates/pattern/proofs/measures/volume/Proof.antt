@@ -4,7 +4,8 @@ use mathlib.Core.Path.{_≡_, sym, _∙_}
 use native.Mathlib.Omega.{arith}
 use Rattle.model.specs.declared.Verdict.the-variants.{Accepted}
 use Rattle.pattern.specs.Measures.{measureVerdict, volumeCall, volumeReplies}
-use Rattle.pattern.proofs.Verdicts.{accepted-tag, rows-small, columns-small, nonzeros-small}
+use Rattle.model.proofs.Theorems.Checks.{rows-range, columns-range, nonzeros-small}
+use Rattle.pattern.proofs.Verdicts.{accepted-tag}
 use Rattle.pattern.proofs.Answers.{measured-told, measure-sizes, volume-value, volume-refused}
 use borrow.Author.Needs.{needs}
 use Rattle.pattern.proofs.measures.volume.Statement.{statement}
@@ -24,10 +25,10 @@ enum-told : tie.Need-enum-told
 enum-told c = search needs
 
 cast-volume-of : tie.Need-cast-volume-of
-cast-volume-of c = omega (arith, rows-small _ _ _ (measure-sizes _ _ _ _ _ (accepted (c .before))))
+cast-volume-of c = omega (arith, rows-range _ _ _ (measure-sizes _ _ _ _ _ (accepted (c .before))) .1)
 
 cast-volume-of-2 : tie.Need-cast-volume-of-2
-cast-volume-of-2 c = omega (arith, columns-small _ _ _ (measure-sizes _ _ _ _ _ (accepted (c .before))))
+cast-volume-of-2 c = omega (arith, columns-range _ _ _ (measure-sizes _ _ _ _ _ (accepted (c .before))) .1)
 
 cast-volume-of-3 : tie.Need-cast-volume-of-3
 cast-volume-of-3 c = omega (arith, nonzeros-small _ _ _ (measure-sizes _ _ _ _ _ (accepted (c .before))))

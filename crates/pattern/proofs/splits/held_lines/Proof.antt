@@ -1,4 +1,4 @@
--- `pattern::held_lines` meets its contract. The loop's invariant: the lines of the nonzeros passed are noted.
+-- `pattern::held_lines` meets its contract. The loop's invariant: the lines of the nonzeros passed are held.
 -- Assumes nothing.
 use mathlib.Core.Path.{_≡_, _∙_, ap}
 use native.Mathlib.Omega.{arith}
@@ -22,8 +22,8 @@ loop-holds : tie.Need-loop-holds Inv-loop μ-loop
 unfolding heldLines
 loop-holds c = (search needs, c .no-lines .ensures)
 
-note-lines-requires : tie.Need-note-lines-requires Inv-loop μ-loop
-note-lines-requires c κs = search needs
+hold-lines-requires : tie.Need-hold-lines-requires Inv-loop μ-loop
+hold-lines-requires c κs = search needs
 
 add-t : tie.Need-add-t Inv-loop μ-loop
 add-t c = search needs
@@ -33,7 +33,7 @@ loop-less c = search needs
 
 loop-again : tie.Need-loop-again Inv-loop μ-loop
 loop-again c =
-    (search needs, held-more _ _ _ _ _ _ _ (c .before .before .before .loop .inv .1) (c .note-lines .ensures))
+    (search needs, held-more _ _ _ _ _ _ _ (c .before .before .before .loop .inv .1) (c .hold-lines .ensures))
 
 returns : tie.Need-returns Inv-loop μ-loop
 returns c =
@@ -49,7 +49,7 @@ held-lines-spec =
     μ-loop
     no-lines-requires
     loop-holds
-    note-lines-requires
+    hold-lines-requires
     add-t
     loop-less
     loop-again

@@ -5,8 +5,8 @@ use native.Mathlib.Omega.{arith}
 use Prim.Native.Nat.{_≤_, _-_}
 use Rattle.counting.specs.Sums.{sum, count}
 use Rattle.counting.proofs.Joined.{bit-le-one}
+use Rattle.counting.proofs.Counted.{count-more}
 use Rattle.pattern.specs.Splits.{inPart, loadOf}
-use Rattle.pattern.proofs.Lines.{count-more}
 use borrow.Author.Needs.{needs}
 use Rattle.pattern.proofs.splits.load_of.Statement.{statement}
 use Rattle.pattern.proofs.splits.load_of.Tie as tie

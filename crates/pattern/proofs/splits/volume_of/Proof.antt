@@ -1,4 +1,4 @@
--- `pattern::volume_of` meets its contract. The lines noted for both parts are the cut lines, and their number is the volume.
+-- `pattern::volume_of` meets its contract. The lines held for both parts are the cut lines, and their number is the volume.
 -- Assumes nothing.
 use mathlib.Core.Path.{_∙_}
 use native.Mathlib.Omega.{arith}

@@ -1,9 +1,8 @@
 -- `scanning::digit_of` meets its contract.
 -- Assumes nothing.
-use mathlib.Core.Path.{_≡_, refl, sym, _∙_, ap}
-use native.Mathlib.Omega.{arith}
+use mathlib.Core.Path.{sym}
 use Rattle.counting.proofs.Joined.{pick-true, pick-false}
-use Rattle.scanning.specs.Classes.{between, digitOf}
+use Rattle.scanning.specs.Classes.{digitOf}
 use Rattle.scanning.proofs.Scans.{between-in, between-below, between-above}
 use Rattle.scanning.proofs.classes.digit_of.Statement.{statement}
 use Rattle.scanning.proofs.classes.digit_of.Tie as tie

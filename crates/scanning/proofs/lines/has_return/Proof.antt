@@ -1,6 +1,6 @@
 -- `scanning::has_return` meets its contract.
 -- Assumes nothing.
-use mathlib.Core.Path.{_≡_, refl, sym, _∙_, ap}
+use mathlib.Core.Path.{sym}
 use Rattle.scanning.proofs.Scans.{no-return-end, no-return-start, return-by}
 use borrow.Author.Needs.{needs}
 use Rattle.scanning.proofs.lines.has_return.Statement.{statement}

@@ -1,7 +1,5 @@
 -- `scanning::is_comment` meets its contract.
 -- Assumes nothing.
-use mathlib.Core.Path.{_≡_, refl, sym, _∙_, ap}
-use Rattle.scanning.specs.Classes.{isPercent}
 use Rattle.scanning.specs.Lines.{isComment}
 use borrow.Author.Needs.{needs}
 use Rattle.scanning.proofs.lines.is_comment.Statement.{statement}

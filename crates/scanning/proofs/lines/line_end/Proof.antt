@@ -1,6 +1,6 @@
 -- `scanning::line_end` meets its contract.
 -- Assumes nothing.
-use mathlib.Core.Path.{_≡_, refl, sym, _∙_, ap}
+use mathlib.Core.Path.{sym, _∙_}
 use Rattle.scanning.proofs.Scans.{end-with, end-without}
 use borrow.Author.Needs.{needs}
 use Rattle.scanning.proofs.lines.line_end.Statement.{statement}

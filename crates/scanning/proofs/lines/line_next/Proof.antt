@@ -1,6 +1,5 @@
 -- `scanning::line_next` meets its contract.
 -- Assumes nothing.
-use mathlib.Core.Path.{_≡_, refl, sym, _∙_, ap}
 use Rattle.scanning.proofs.Scans.{next-more, next-none}
 use borrow.Author.Needs.{needs}
 use Rattle.scanning.proofs.lines.line_next.Statement.{statement}

@@ -1,6 +1,6 @@
 -- `scanning::move_to` meets its contract.
 -- Assumes nothing.
-use mathlib.Core.Path.{_≡_, refl, sym, _∙_, ap}
+use mathlib.Core.Path.{sym, ap}
 use Rattle.pattern.proofs.Verdicts.{accepted-tag}
 use Rattle.scanning.specs.Checks.{moved}
 use borrow.Author.Needs.{needs}

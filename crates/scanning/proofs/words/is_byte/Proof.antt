@@ -1,7 +1,5 @@
 -- `scanning::is_byte` meets its contract.
 -- Assumes nothing.
-use mathlib.Core.Path.{_≡_, refl, sym, _∙_, ap}
-use Rattle.scanning.specs.Classes.{cased}
 use borrow.Author.Needs.{needs}
 use Rattle.scanning.proofs.words.is_byte.Statement.{statement}
 use Rattle.scanning.proofs.words.is_byte.Tie as tie

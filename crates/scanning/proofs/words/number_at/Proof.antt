@@ -1,6 +1,5 @@
 -- `scanning::number_at` meets its contract.
 -- Assumes nothing.
-use mathlib.Core.Path.{_≡_, refl, sym, _∙_, ap}
 use Rattle.scanning.specs.Words.{numberAt}
 use borrow.Author.Needs.{needs}
 use Rattle.scanning.proofs.words.number_at.Statement.{statement}

@@ -1,6 +1,6 @@
 -- `scanning::number_value` meets its contract. The loop's invariant: the value of the digits passed, of which there are at most 9.
 -- Assumes nothing.
-use mathlib.Core.Path.{_≡_, refl, sym, _∙_, ap}
+use mathlib.Core.Path.{_≡_, refl, sym, _∙_}
 use native.Mathlib.Omega.{arith}
 use borrow.Author.Tests.{not-true, not-false}
 use Prim.Native.Nat.{_-_, _≤_, _<_}

@@ -6,8 +6,8 @@ use lib.ListN.{length}
 use Rattle.model.specs.declared.Word.the-variants.{ShortBuffer}
 use Rattle.model.specs.Pattern.{patternOf}
 use Rattle.model.specs.State.{recordOf}
+use Rattle.model.proofs.Theorems.OfList.{size-of}
 use Rattle.state.proofs.Accepting.{trail-fits, best-fits}
-use Rattle.search.proofs.Splits.{size-is}
 use Rattle.search.proofs.Shows.{room-short, room-enough, shown-refused, parts-refused, shown-split, shown-none, parts-split, parts-none}
 use borrow.Author.Needs.{needs}
 use Rattle.search.proofs.presenting.show_fine.Statement.{statement}
@@ -41,7 +41,7 @@ returns-2 c =
     let long = c .before .before .before .before .before .before .if1 .left in
     let room : a .nonzeros ≤ length (a .parts .now) = omega (arith, long, c .before .before .before .before .before .before .before .wide16 .ensures .0) in
     let enough = room-enough (a .parts .now) (a .nonzeros) room in
-    (λ ready fits. shown-split (a .search) P _ enough (shown .show-split .result) (c .before .before .before .before .before .floor-of .result) (found .if2 .taken) (shown .show-split .ensures .0 (ready .listed) (ready .placed) (best-fits (a .search) (a .k) (ready .few) fits (found .if2 .taken)) room) (c .before .before .before .before .before .floor-of .ensures (ready .listed) (ready .placed) (trail-fits (a .search) (a .k) (ready .few) fits)), λ ready fits. parts-split (a .search) P _ enough (a .nonzeros) (a .parts .now) _ (size-is (a .m) (a .n) (a .nonzeros) (a .list .now)) (found .if2 .taken) (shown .show-split .ensures .1 (ready .listed) (ready .placed) (best-fits (a .search) (a .k) (ready .few) fits (found .if2 .taken))))
+    (λ ready fits. shown-split (a .search) P _ enough (shown .show-split .result) (c .before .before .before .before .before .floor-of .result) (found .if2 .taken) (shown .show-split .ensures .0 (ready .listed) (ready .placed) (best-fits (a .search) (a .k) (ready .few) fits (found .if2 .taken)) room) (c .before .before .before .before .before .floor-of .ensures (ready .listed) (ready .placed) (trail-fits (a .search) (a .k) (ready .few) fits)), λ ready fits. parts-split (a .search) P _ enough (a .nonzeros) (a .parts .now) _ (size-of (a .m) (a .n) (a .nonzeros) (a .list .now)) (found .if2 .taken) (shown .show-split .ensures .1 (ready .listed) (ready .placed) (best-fits (a .search) (a .k) (ready .few) fits (found .if2 .taken))))
 
 returns-3 : tie.Need-returns-3
 returns-3 c =

@@ -2,14 +2,19 @@
 -- Assumes nothing.
 use Rattle.search.proofs.Splits.{parts-shown, volume-shown}
 use borrow.Author.Needs.{needs}
+use Prim.Native.Nat.{_<_}
+use native.Mathlib.Omega.{arith}
 use Rattle.search.proofs.presenting.show_split.Statement.{statement}
 use Rattle.search.proofs.presenting.show_split.Tie as tie
 
 cleared-requires : tie.Need-cleared-requires
 cleared-requires c κs = search needs
 
-marks-of-requires : tie.Need-marks-of-requires
-marks-of-requires c κs = search needs
+lines-of-requires : tie.Need-lines-of-requires
+lines-of-requires c κs = search needs
+
+marks-by-line-requires : tie.Need-marks-by-line-requires
+marks-by-line-requires c κs = search needs
 
 evaluate-lines-requires : tie.Need-evaluate-lines-requires
 evaluate-lines-requires c κs = search needs
@@ -26,12 +31,15 @@ same-length c = search needs
 returns : tie.Need-returns
 returns c =
     let w = c .before .before .before .before in
-    let j = c .before .before .before .before .before .before .before in
-    let k = c .before .before .before .before .before .before .before .before .before in
-    let h = c .before .before .before .before .before .before .before .before .before .before .before .before in
-    let a = c .before .before .before .before .before .before .before .before .before .before .before .before .before .before .before .args in
-    let parts = parts-shown (a .m) (a .n) (a .nonzeros) (a .list .now) (a .places .now) (a .starts .now) (a .cap) (a .best) (h .cleared .result) (k .marks-of .result) (a .parts .now) _ (j .evaluate-lines .result) (h .cleared .ensures) (k .marks-of .ensures) (j .evaluate-lines .ensures) (w .write-split .ensures) in
-    let volume = volume-shown (a .m) (a .n) (a .nonzeros) (a .list .now) (a .places .now) (a .starts .now) (a .cap) (a .best) (h .cleared .result) (k .marks-of .result) (a .parts .now) _ (j .evaluate-lines .result) (h .cleared .ensures) (k .marks-of .ensures) (j .evaluate-lines .ensures) (w .write-split .ensures) in
+    let j = w .before .before .before in
+    let k = j .before .before in
+    let t = k .before .before .lines-of in
+    let h = k .before .before .before .before in
+    let s = h .before .before .before in
+    let a = s .args in
+    let few : t .result < 512 = omega (arith, t .ensures, s .fits) in
+    let parts = parts-shown (a .m) (a .n) (a .nonzeros) (a .list .now) (a .places .now) (a .starts .now) (a .cap) (t .result) (a .best) (h .cleared .result) (k .marks-by-line .result) (a .parts .now) _ (j .evaluate-lines .result) (h .cleared .ensures) (t .ensures) few (k .marks-by-line .ensures) (j .evaluate-lines .ensures) (w .write-split .ensures) in
+    let volume = volume-shown (a .m) (a .n) (a .nonzeros) (a .list .now) (a .places .now) (a .starts .now) (a .cap) (t .result) (a .best) (h .cleared .result) (k .marks-by-line .result) (a .parts .now) _ (j .evaluate-lines .result) (h .cleared .ensures) (t .ensures) few (k .marks-by-line .ensures) (j .evaluate-lines .ensures) (w .write-split .ensures) in
     (λ listed placed short room. volume listed placed short (c .volume-of .result) room (c .volume-of .ensures), λ listed placed short. parts listed placed short)
 
 pub show-split-spec : {M : Type 1} → statement M
@@ -39,7 +47,8 @@ show-split-spec =
     tie.close
     (tie.spec
     cleared-requires
-    marks-of-requires
+    lines-of-requires
+    marks-by-line-requires
     evaluate-lines-requires
     write-split-requires
     volume-of-requires

@@ -1,13 +1,12 @@
 -- `texts::banner_at` meets its contract.
 -- Assumes nothing.
-use mathlib.Core.Path.{_≡_, refl, sym, _∙_, ap}
 use Rattle.texts.proofs.Cells.{banner-by}
 use borrow.Author.Needs.{needs}
 use Rattle.texts.proofs.head.banner_at.Statement.{statement}
 use Rattle.texts.proofs.head.banner_at.Tie as tie
 
-run-end-requires : tie.Need-run-end-requires
-run-end-requires c κs = search needs
+stretch-end-requires : tie.Need-stretch-end-requires
+stretch-end-requires c κs = search needs
 
 slice-aggregate-same-word : tie.Need-slice-aggregate-same-word
 slice-aggregate-same-word c = search needs
@@ -60,32 +59,32 @@ same-word-requires-6 c κs = search needs
 ends-at-requires : tie.Need-ends-at-requires
 ends-at-requires c κs = search needs
 
-both-requires : tie.Need-both-requires
-both-requires c κs = search needs
+both-of-requires : tie.Need-both-of-requires
+both-of-requires c κs = search needs
 
-either-requires : tie.Need-either-requires
-either-requires c κs = search needs
+either-of-requires : tie.Need-either-of-requires
+either-of-requires c κs = search needs
 
-both-requires-2 : tie.Need-both-requires-2
-both-requires-2 c κs = search needs
+both-of-requires-2 : tie.Need-both-of-requires-2
+both-of-requires-2 c κs = search needs
 
-both-requires-3 : tie.Need-both-requires-3
-both-requires-3 c κs = search needs
+both-of-requires-3 : tie.Need-both-of-requires-3
+both-of-requires-3 c κs = search needs
 
-both-requires-4 : tie.Need-both-requires-4
-both-requires-4 c κs = search needs
+both-of-requires-4 : tie.Need-both-of-requires-4
+both-of-requires-4 c κs = search needs
 
-both-requires-5 : tie.Need-both-requires-5
-both-requires-5 c κs = search needs
+both-of-requires-5 : tie.Need-both-of-requires-5
+both-of-requires-5 c κs = search needs
 
 returns : tie.Need-returns
-returns c = banner-by _ _ _ _ _ _ _ _ _ _ _ _ _ _ _ _ _ _ _ _ (c .before .before .before .before .before .before .before .before .before .before .before .before .before .before .before .before .before .before .before .before .before .before .before .run-end .ensures) (c .before .before .before .before .before .before .before .before .before .before .before .before .before .before .before .before .before .before .before .before .before .same-word .ensures) (c .before .before .before .before .before .before .before .before .before .before .before .before .before .before .before .before .before .before .before .before .word-at .ensures) (c .before .before .before .before .before .before .before .before .before .before .before .before .before .before .before .before .before .before .same-word2 .ensures) (c .before .before .before .before .before .before .before .before .before .before .before .before .before .before .before .before .before .word-at2 .ensures) (c .before .before .before .before .before .before .before .before .before .before .before .before .before .before .before .same-word3 .ensures) (c .before .before .before .before .before .before .before .before .before .before .before .before .before .before .word-at3 .ensures) (c .before .before .before .before .before .before .before .before .before .before .before .before .same-word4 .ensures) (c .before .before .before .before .before .before .before .before .before .before .same-word5 .ensures) (c .before .before .before .before .before .before .before .before .before .word-at4 .ensures) (c .before .before .before .before .before .before .before .same-word6 .ensures) (c .before .before .before .before .before .before .ends-at .ensures) (c .before .before .before .before .before .both .ensures) (c .before .before .before .before .either .ensures) (c .before .before .before .both2 .ensures) (c .before .before .both3 .ensures) (c .before .both4 .ensures) (c .both5 .ensures)
+returns c = banner-by _ _ _ _ _ _ _ _ _ _ _ _ _ _ _ _ _ _ _ _ (c .before .before .before .before .before .before .before .before .before .before .before .before .before .before .before .before .before .before .before .before .before .before .before .stretch-end .ensures) (c .before .before .before .before .before .before .before .before .before .before .before .before .before .before .before .before .before .before .before .before .before .same-word .ensures) (c .before .before .before .before .before .before .before .before .before .before .before .before .before .before .before .before .before .before .before .before .word-at .ensures) (c .before .before .before .before .before .before .before .before .before .before .before .before .before .before .before .before .before .before .same-word2 .ensures) (c .before .before .before .before .before .before .before .before .before .before .before .before .before .before .before .before .before .word-at2 .ensures) (c .before .before .before .before .before .before .before .before .before .before .before .before .before .before .before .same-word3 .ensures) (c .before .before .before .before .before .before .before .before .before .before .before .before .before .before .word-at3 .ensures) (c .before .before .before .before .before .before .before .before .before .before .before .before .same-word4 .ensures) (c .before .before .before .before .before .before .before .before .before .before .same-word5 .ensures) (c .before .before .before .before .before .before .before .before .before .word-at4 .ensures) (c .before .before .before .before .before .before .before .same-word6 .ensures) (c .before .before .before .before .before .before .ends-at .ensures) (c .before .before .before .before .before .both-of .ensures) (c .before .before .before .before .either-of .ensures) (c .before .before .before .both-of2 .ensures) (c .before .before .both-of3 .ensures) (c .before .both-of4 .ensures) (c .both-of5 .ensures)
 
 pub banner-at-spec : {M : Type 1} → statement M
 banner-at-spec =
     tie.close
     (tie.spec
-    run-end-requires
+    stretch-end-requires
     slice-aggregate-same-word
     same-word-requires
     word-at-requires
@@ -103,10 +102,10 @@ banner-at-spec =
     slice-aggregate-same-word-6
     same-word-requires-6
     ends-at-requires
-    both-requires
-    either-requires
-    both-requires-2
-    both-requires-3
-    both-requires-4
-    both-requires-5
+    both-of-requires
+    either-of-requires
+    both-of-requires-2
+    both-of-requires-3
+    both-of-requires-4
+    both-of-requires-5
     returns)

@@ -1,6 +1,5 @@
 -- `texts::head_verdict` meets its contract.
 -- Assumes nothing.
-use mathlib.Core.Path.{_≡_, refl, sym, _∙_, ap}
 use Rattle.texts.proofs.Cells.{head-by}
 use borrow.Author.Needs.{needs}
 use Rattle.texts.proofs.head.head_verdict.Statement.{statement}

@@ -1,6 +1,5 @@
 -- `texts::is_short` meets its contract.
 -- Assumes nothing.
-use mathlib.Core.Path.{_≡_, refl, sym, _∙_, ap}
 use Rattle.texts.specs.Header.{short}
 use borrow.Author.Needs.{needs}
 use Rattle.texts.proofs.head.is_short.Statement.{statement}
@@ -12,11 +11,11 @@ wide32-requires c κs = search needs
 mul-listed : tie.Need-mul-listed
 mul-listed c = search needs
 
-both-requires : tie.Need-both-requires
-both-requires c κs = search needs
+both-of-requires : tie.Need-both-of-requires
+both-of-requires c κs = search needs
 
-either-requires : tie.Need-either-requires
-either-requires c κs = search needs
+either-of-requires : tie.Need-either-of-requires
+either-of-requires c κs = search needs
 
 returns : tie.Need-returns
 unfolding short
@@ -24,4 +23,4 @@ returns c = cc
 
 pub is-short-spec : {M : Type 1} → statement M
 is-short-spec =
-    tie.close (tie.spec wide32-requires mul-listed both-requires either-requires returns)
+    tie.close (tie.spec wide32-requires mul-listed both-of-requires either-of-requires returns)

@@ -1,6 +1,6 @@
 -- `texts::read` meets its contract.
 -- Assumes nothing.
-use mathlib.Core.Path.{_≡_, refl, sym, _∙_, ap}
+use mathlib.Core.Path.{sym, _∙_}
 use Rattle.pattern.proofs.Verdicts.{accepted-tag}
 use Rattle.texts.proofs.Answers.{head-rows, read-answer-is, read-list-is, read-parts-is, read-refused, read-list-kept, read-parts-kept, read-told}
 use borrow.Author.Needs.{needs}

@@ -1,6 +1,5 @@
 -- `texts::read_entries` meets its contract.
 -- Assumes nothing.
-use mathlib.Core.Path.{_≡_, refl, sym, _∙_, ap}
 use Rattle.pattern.proofs.Verdicts.{accepted-tag}
 use Rattle.texts.proofs.Answers.{below-read, below-refused, below-list, below-parts, below-list-kept, below-parts-kept}
 use borrow.Author.Needs.{needs}

@@ -1,10 +1,6 @@
 -- `weighing::cells::put_at` meets its contract.
 -- Assumes nothing.
 use borrow.Author.Needs.{needs}
-use mathlib.Core.Path.{_∙_, ap}
-use mathlib.Core.List.{List}
-use Prim.Native.Nat.{ℕ}
-use lib.ListN.{getD}
 use Rattle.weighing.proofs.Stores.{put-plain}
 use Rattle.weighing.proofs.cells.put_at.Statement.{statement}
 use Rattle.weighing.proofs.cells.put_at.Tie as tie

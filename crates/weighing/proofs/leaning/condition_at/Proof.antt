@@ -5,8 +5,8 @@ use Rattle.weighing.specs.Leaning.{conditionIn}
 use Rattle.weighing.proofs.leaning.condition_at.Statement.{statement}
 use Rattle.weighing.proofs.leaning.condition_at.Tie as tie
 
-mark-at-requires : tie.Need-mark-at-requires
-mark-at-requires c κs = search needs
+line-mark-requires : tie.Need-line-mark-requires
+line-mark-requires c κs = search needs
 
 byte-of-requires : tie.Need-byte-of-requires
 byte-of-requires c κs = search needs
@@ -24,4 +24,4 @@ returns c = cc
 pub condition-at-spec : {M : Type 1} → statement M
 condition-at-spec =
     tie.close
-    (tie.spec mark-at-requires byte-of-requires byte-of-requires-2 condition-of-requires returns)
+    (tie.spec line-mark-requires byte-of-requires byte-of-requires-2 condition-of-requires returns)

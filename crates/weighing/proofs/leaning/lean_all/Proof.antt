@@ -1,16 +1,15 @@
 -- `weighing::leaning::lean_all` meets its contract. The invariant: the counts and the array are those of the lines passed.
 -- Assumes nothing.
 use borrow.Author.Needs.{needs}
-use mathlib.Core.Path.{_≡_, refl, sym, _∙_, ap}
-use Prim.Native.Nat.{ℕ, _+_, _-_, _≤_, _<_}
+use mathlib.Core.Path.{_≡_, _∙_, ap}
+use Prim.Native.Nat.{_+_, _-_, _≤_}
 use native.Mathlib.Omega.{arith}
-use lib.ListN.{getD}
 use Rattle.counting.proofs.Joined.{bit-le-one}
 use Rattle.model.specs.Bound.{saysCut, saysTorn}
 use Rattle.weighing.specs.Leaning.{leanNumber, conditionIn}
 use Rattle.weighing.proofs.Steps.{bit-named}
 use Rattle.weighing.proofs.Stores.{value-named}
-use Rattle.weighing.proofs.Leans.{LeansTo, LeansMore, leans-start, leans-more, leans-end, cut-small, torn-small}
+use Rattle.weighing.proofs.Leans.{LeansTo, leans-start, leans-more, leans-end, cut-small, torn-small}
 use Rattle.weighing.proofs.leaning.lean_all.Statement.{statement}
 use Rattle.weighing.proofs.leaning.lean_all.Tie as tie
 

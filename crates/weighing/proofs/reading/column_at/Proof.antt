@@ -1,9 +1,6 @@
 -- `weighing::reading::column_at` meets its contract.
 -- Assumes nothing.
 use borrow.Author.Needs.{needs}
-use mathlib.Core.Path.{_≡_, ap}
-use native.Mathlib.Omega.{arith}
-use lib.ListN.{getD}
 use Rattle.model.specs.Pattern.{columnIn}
 use Rattle.weighing.proofs.reading.column_at.Statement.{statement}
 use Rattle.weighing.proofs.reading.column_at.Tie as tie

@@ -1,9 +1,6 @@
 -- `weighing::reading::row_at` meets its contract.
 -- Assumes nothing.
 use borrow.Author.Needs.{needs}
-use mathlib.Core.Path.{_≡_, ap}
-use native.Mathlib.Omega.{arith}
-use lib.ListN.{getD}
 use Rattle.model.specs.Pattern.{rowIn}
 use Rattle.weighing.proofs.reading.row_at.Statement.{statement}
 use Rattle.weighing.proofs.reading.row_at.Tie as tie

@@ -1,13 +1,11 @@
 -- `weighing::rows::take_full` meets its contract. The invariant: the counts, the test and the arrays are those of the nonzeros passed.
 -- Assumes nothing.
-use borrow.Author.Needs.{needs}
-use mathlib.Core.Path.{_≡_, sym, _∙_, ap}
-use Prim.Native.Nat.{ℕ, _+_, _*_, _-_, _≤_, _<_}
+use Prim.Native.Nat.{_-_, _≤_}
 use native.Mathlib.Omega.{arith}
 use Rattle.model.specs.Pattern.{patternOf}
 use Rattle.weighing.specs.Cells.{markingIn}
 use Rattle.weighing.specs.Rows.{OpenTo}
-use Rattle.weighing.proofs.ByRuns.{open-start, open-end, open-small}
+use Rattle.weighing.proofs.ByStretches.{open-start, open-end, open-small}
 use Rattle.weighing.proofs.rows.take_full.Statement.{statement}
 use Rattle.weighing.proofs.rows.take_full.Tie as tie
 

@@ -2,8 +2,8 @@
 -- Assumes nothing.
 use borrow.Author.Needs.{needs}
 use borrow.Author.Tests.{leb-true}
-use mathlib.Core.Path.{_≡_, sym, _∙_}
-use Rattle.weighing.proofs.ByRuns.{open-all}
+use mathlib.Core.Path.{sym, _∙_}
+use Rattle.weighing.proofs.ByStretches.{open-all}
 use Rattle.weighing.proofs.rows.take_lines.Statement.{statement}
 use Rattle.weighing.proofs.rows.take_lines.Tie as tie
 

@@ -1,26 +1,25 @@
 -- `weighing::rows::take_row` meets its contract.
 -- Assumes nothing.
 use borrow.Author.Needs.{needs}
-use mathlib.Core.Path.{_≡_, sym, _∙_, ap}
+use mathlib.Core.Path.{sym, _∙_, ap}
 use Prim.Native.Nat.{ℕ}
-use native.Mathlib.Omega.{arith}
 use lib.Dec.{eqb, ltb}
 use lib.ListN.{getD}
 use Rattle.counting.specs.Tests.{_and_, pick}
 use Rattle.weighing.specs.Cells.{markingIn}
-use Rattle.weighing.proofs.Runs.{run-moves}
-use Rattle.weighing.proofs.ByRuns.{zero-row, one-row, open-row, open-named, not-part}
+use Rattle.weighing.proofs.Stretches.{stretch-moves}
+use Rattle.weighing.proofs.ByStretches.{zero-row, one-row, open-row, open-named, not-part}
 use Rattle.weighing.proofs.rows.take_row.Statement.{statement}
 use Rattle.weighing.proofs.rows.take_row.Tie as tie
 
 wide-requires : tie.Need-wide-requires
 wide-requires c κs = search needs
 
-mark-at-requires : tie.Need-mark-at-requires
-mark-at-requires c κs = search needs
+line-mark-requires : tie.Need-line-mark-requires
+line-mark-requires c κs = search needs
 
-marked-run-requires : tie.Need-marked-run-requires
-marked-run-requires c κs = search needs
+marked-stretch-requires : tie.Need-marked-stretch-requires
+marked-stretch-requires c κs = search needs
 
 sub-t20 : tie.Need-sub-t20
 sub-t20 c = search needs
@@ -36,13 +35,13 @@ either-of-requires c κs = search needs
 
 returns : tie.Need-returns
 returns c =
-    let run = c .before .before .before .before .marked-run in
+    let stretch = c .before .before .before .before .marked-stretch in
     let h = c .before .before .before .before .before .before in
     let a = h .before .before .before .before .args in
-    let mark = h .before .mark-at in
+    let mark = h .before .line-mark in
     let line = h .before .before .wide in (
-      run-moves (a .list .now) (a .nonzeros) (a .row) (a .start) (run .result .next) (run .ensures .0) (run .ensures .1) (c .before .before .before .before .before .before .before .before .before .before .pre .1) (c .before .before .before .before .before .before .before .before .before .before .pre .2),
-      run .ensures .0 .within,
+      stretch-moves (a .list .now) (a .nonzeros) (a .row) (a .start) (stretch .result .next) (stretch .ensures .0) (stretch .ensures .1) (c .before .before .before .before .before .before .before .before .before .before .pre .1) (c .before .before .before .before .before .before .before .before .before .before .pre .2),
+      stretch .ensures .0 .within,
       λ n zero₀ one₀ k. open-named
           (c .either-of .result)
           (c .either-of .ensures)
@@ -52,17 +51,17 @@ returns c =
           (a .nonzeros)
           (a .list .now)
           (markingIn (a .marks .now))
-          (run .ensures .0)
+          (stretch .ensures .0)
           k
-          (run .result .others)
-          (run .last .1 .1 .1 .1 .1 .1 .1 .0)
+          (stretch .result .others)
+          (stretch .last .1 .1 .1 .1 .1 .1 .1 .0)
           (sym (mark .ensures ∙ ap (markingIn (a .marks .now)) (line .ensures .0)) ∙ h .if1 .taken)
-          (run .ensures .3)
-          (run .ensures .4)),
+          (stretch .ensures .3)
+          (stretch .ensures .4)),
     )
 
-marked-run-requires-2 : tie.Need-marked-run-requires-2
-marked-run-requires-2 c κs = search needs
+marked-stretch-requires-2 : tie.Need-marked-stretch-requires-2
+marked-stretch-requires-2 c κs = search needs
 
 add-t26 : tie.Need-add-t26
 add-t26 c = search needs
@@ -78,13 +77,13 @@ either-of-requires-2 c κs = search needs
 
 returns-2 : tie.Need-returns-2
 returns-2 c =
-    let run = c .before .before .before .before .marked-run2 in
+    let stretch = c .before .before .before .before .marked-stretch2 in
     let h = c .before .before .before .before .before .before in
     let a = h .before .before .before .before .before .args in
-    let mark = h .before .before .mark-at in
+    let mark = h .before .before .line-mark in
     let line = h .before .before .before .wide in (
-      run-moves (a .list .now) (a .nonzeros) (a .row) (a .start) (run .result .next) (run .ensures .0) (run .ensures .1) (h .before .before .before .before .before .pre .1) (h .before .before .before .before .before .pre .2),
-      run .ensures .0 .within,
+      stretch-moves (a .list .now) (a .nonzeros) (a .row) (a .start) (stretch .result .next) (stretch .ensures .0) (stretch .ensures .1) (h .before .before .before .before .before .pre .1) (h .before .before .before .before .before .pre .2),
+      stretch .ensures .0 .within,
       λ n zero₀ one₀ k. open-named
           (c .either-of2 .result)
           (c .either-of2 .ensures)
@@ -94,17 +93,17 @@ returns-2 c =
           (a .nonzeros)
           (a .list .now)
           (markingIn (a .marks .now))
-          (run .ensures .0)
+          (stretch .ensures .0)
           k
-          (run .result .others)
-          (run .last .1 .1 .1 .1 .1 .1 .1 .0)
+          (stretch .result .others)
+          (stretch .last .1 .1 .1 .1 .1 .1 .1 .0)
           (sym (mark .ensures ∙ ap (markingIn (a .marks .now)) (line .ensures .0)) ∙ h .if2 .taken)
-          (run .ensures .3)
-          (run .ensures .4)),
+          (stretch .ensures .3)
+          (stretch .ensures .4)),
     )
 
-open-run-requires : tie.Need-open-run-requires
-open-run-requires c κs = search needs
+open-stretch-requires : tie.Need-open-stretch-requires
+open-stretch-requires c κs = search needs
 
 put-if-requires : tie.Need-put-if-requires
 put-if-requires c κs = search needs
@@ -123,29 +122,29 @@ returns-3 c =
     let first = c .before .before .before .before .before .put-if in
     let second = c .before .before .put-if2 in
     let h = c .before .before .before .before .before .before .before .before in
-    let run = h .open-run in
+    let stretch = h .open-stretch in
     let a = h .before .before .before .before .before .before .args in
-    let mark = h .before .before .before .mark-at in
+    let mark = h .before .before .before .line-mark in
     let line = h .before .before .before .before .wide in (
-      run-moves (a .list .now) (a .nonzeros) (a .row) (a .start) (run .result .next) (run .ensures .0) (run .ensures .1) (h .before .before .before .before .before .before .pre .1) (h .before .before .before .before .before .before .pre .2),
-      run .ensures .0 .within,
+      stretch-moves (a .list .now) (a .nonzeros) (a .row) (a .start) (stretch .result .next) (stretch .ensures .0) (stretch .ensures .1) (h .before .before .before .before .before .before .pre .1) (h .before .before .before .before .before .before .pre .2),
+      stretch .ensures .0 .within,
       λ n zero₀ one₀ k. open-row
           (a .m)
           n
           (a .nonzeros)
           (a .list .now)
           (markingIn (a .marks .now))
-          (run .ensures .0)
+          (stretch .ensures .0)
           k
-          (run .result .zero)
-          (run .result .one)
+          (stretch .result .zero)
+          (stretch .result .one)
           (first .last .0)
           (second .last .0)
           (not-part (markingIn (a .marks .now) (a .row)) (mark .result) (mark .ensures ∙ ap (markingIn (a .marks .now)) (line .ensures .0)) (h .before .before .if1 .left) (h .before .if2 .left))
-          (run .ensures .4)
-          (run .ensures .5)
-          (λ l b. first .ensures l b ∙ ap (λ (x : ℕ). pick (eqb l x and ltb 0 (run .result .zero)) 1 (getD (a .by-zero .now) l 0)) (line .ensures .0))
-          (λ l b. second .ensures l b ∙ ap (λ (x : ℕ). pick (eqb l x and ltb 0 (run .result .one)) 1 (getD (a .by-one .now) l 0)) (line .ensures .0)),
+          (stretch .ensures .4)
+          (stretch .ensures .5)
+          (λ l b. first .ensures l b ∙ ap (λ (x : ℕ). pick (eqb l x and ltb 0 (stretch .result .zero)) 1 (getD (a .by-zero .now) l 0)) (line .ensures .0))
+          (λ l b. second .ensures l b ∙ ap (λ (x : ℕ). pick (eqb l x and ltb 0 (stretch .result .one)) 1 (getD (a .by-one .now) l 0)) (line .ensures .0)),
     )
 
 pub take-row-spec : {M : Type 1} → statement M
@@ -153,20 +152,20 @@ take-row-spec =
     tie.close
     (tie.spec
     wide-requires
-    mark-at-requires
-    marked-run-requires
+    line-mark-requires
+    marked-stretch-requires
     sub-t20
     add-t21
     add-t22
     either-of-requires
     returns
-    marked-run-requires-2
+    marked-stretch-requires-2
     add-t26
     sub-t27
     add-t28
     either-of-requires-2
     returns-2
-    open-run-requires
+    open-stretch-requires
     put-if-requires
     put-if-requires-2
     add-t34

@@ -1,8 +1,7 @@
 -- `weighing::striking::count_line` meets its contract.
 -- Assumes nothing.
 use borrow.Author.Needs.{needs}
-use mathlib.Core.Path.{sym, _∙_, ap}
-use mathlib.Core.List.{List}
+use mathlib.Core.Path.{_∙_, ap}
 use lib.ListN.{getD, set}
 use Prim.Native.Nat.{ℕ}
 use Rattle.weighing.specs.Cells.{raised}

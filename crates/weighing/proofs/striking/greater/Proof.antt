@@ -1,8 +1,7 @@
 -- `weighing::striking::greater` meets its contract.
 -- Assumes nothing.
 use borrow.Author.Needs.{needs}
-use mathlib.Core.Path.{sym, _∙_, ap}
-use Rattle.counting.specs.Tests.{_and_}
+use mathlib.Core.Path.{sym, _∙_}
 use Rattle.counting.proofs.Joined.{pick-true, pick-false}
 use Rattle.weighing.proofs.striking.greater.Statement.{statement}
 use Rattle.weighing.proofs.striking.greater.Tie as tie

@@ -1,11 +1,11 @@
 -- `weighing::striking::strike` meets its contract.
 -- Assumes nothing.
 use borrow.Author.Needs.{needs}
-use mathlib.Core.Path.{_≡_, refl, sym, _∙_, ap}
-use Prim.Native.Nat.{ℕ, _+_, _≤_, _<_}
+use mathlib.Core.Path.{sym, _∙_}
+use Prim.Native.Nat.{_+_}
 use native.Mathlib.Omega.{arith}
-use Rattle.model.specs.Bound.{falling, strikes}
-use Rattle.weighing.specs.Striking.{linesAt, struckIn, Tallied}
+use Rattle.model.specs.Bound.{falling}
+use Rattle.weighing.specs.Striking.{linesAt, struckIn}
 use Rattle.weighing.proofs.Struck.{strikes-stop, tally-struck, struck-most}
 use Rattle.weighing.proofs.striking.strike.Statement.{statement}
 use Rattle.weighing.proofs.striking.strike.Tie as tie
@@ -14,11 +14,11 @@ returns : tie.Need-returns
 unfolding struckIn
 returns c = let a = c .before .args in sym (strikes-stop (falling (linesAt (a .lean .now) (a .weights .now) (a .part) (a .m + a .n)) 2000) (a .s) (a .room) (c .if1 .taken))
 
-no-lines-requires : tie.Need-no-lines-requires
-no-lines-requires c κs = search needs
+no-tally-requires : tie.Need-no-tally-requires
+no-tally-requires c κs = search needs
 
 tally-requires : tie.Need-tally-requires
-tally-requires c κs = c .before .no-lines .ensures
+tally-requires c κs = c .before .no-tally .ensures
 
 strike-down-requires : tie.Need-strike-down-requires
 strike-down-requires c κs =
@@ -39,4 +39,4 @@ returns-2 c =
 
 pub strike-spec : {M : Type 1} → statement M
 strike-spec =
-    tie.close (tie.spec returns no-lines-requires tally-requires strike-down-requires returns-2)
+    tie.close (tie.spec returns no-tally-requires tally-requires strike-down-requires returns-2)

@@ -1,7 +1,7 @@
 -- `weighing::striking::strike_down` meets its contract. The invariant: what was struck, with what will be, is what is to be struck.
 -- Assumes nothing.
 use borrow.Author.Needs.{needs}
-use mathlib.Core.Path.{_≡_, refl, sym, _∙_, ap}
+use mathlib.Core.Path.{_≡_, sym, _∙_, ap}
 use Prim.Native.Nat.{ℕ, _+_, _-_, _≤_, _<_}
 use native.Mathlib.Omega.{arith}
 use lib.Dec.{ltb}
@@ -29,7 +29,7 @@ add-k c = omega (arith, c .pre .0)
 some-left : (c : tie.Then1 Inv-loop μ-loop) → 0 < c .before .before .loop .k
 some-left c =
     let l = c .before .before .loop in
-    ltb-true 0 (l .k) (and-left (ltb 0 (l .k)) (ltb (c .before .before .before .args .room) (l .left)) (sym (c .before .goes-on .ensures) ∙ c .if1 .taken))
+    ltb-true 0 (l .k) (and-left (ltb 0 (l .k)) (ltb (c .before .before .before .args .room) (l .left)) (sym (c .before .strikes-on .ensures) ∙ c .if1 .taken))
 
 -- what was struck, with the lines of this weight, and what will be
 stepped :
@@ -41,11 +41,11 @@ stepped :
 stepped c =
     let a = c .before .before .before .before .before .args in
     let l = c .before .before .before .before .loop in
-    let lines : c .before .lines-of .result ≡ getD (a .counts .now) (l .k - 1) 0 = c .before .lines-of .ensures in
+    let lines : c .before .lines-with .result ≡ getD (a .counts .now) (l .k - 1) 0 = c .before .lines-with .ensures in
     omega (
       arith,
       l .inv .1,
-      down-more (λ x. getD (a .counts .now) x 0) (l .k) (l .left) (a .room) (sym (c .before .before .before .goes-on .ensures) ∙ c .before .before .if1 .taken),
+      down-more (λ x. getD (a .counts .now) x 0) (l .k) (l .left) (a .room) (sym (c .before .before .before .strikes-on .ensures) ∙ c .before .before .if1 .taken),
       c .strike-weight .ensures .0,
       ap (λ (j : ℕ). strikes (replicate j (l .k - 1)) (l .left) (a .room)) lines,
       ap (λ (z : ℕ). strikes (fallingBelow (λ x. getD (a .counts .now) x 0) (l .k - 1)) z (a .room)) (c .strike-weight .ensures .1 ∙ ap (λ (j : ℕ). leftOf j (l .k - 1) (l .left) (a .room)) lines),
@@ -54,14 +54,14 @@ stepped c =
 loop-holds : tie.Need-loop-holds Inv-loop μ-loop
 loop-holds c = let a = c .args in (omega arith, omega (arith, down-start (λ x. getD (a .counts .now) x 0) (a .top) (a .s) (a .room)))
 
-goes-on-requires : tie.Need-goes-on-requires Inv-loop μ-loop
-goes-on-requires c κs = search needs
+strikes-on-requires : tie.Need-strikes-on-requires Inv-loop μ-loop
+strikes-on-requires c κs = search needs
 
 sub-k : tie.Need-sub-k Inv-loop μ-loop
 sub-k c = omega (arith, some-left c)
 
-lines-of-requires : tie.Need-lines-of-requires Inv-loop μ-loop
-lines-of-requires c κs = search needs
+lines-with-requires : tie.Need-lines-with-requires Inv-loop μ-loop
+lines-with-requires c κs = search needs
 
 strike-weight-requires : tie.Need-strike-weight-requires Inv-loop μ-loop
 strike-weight-requires c κs = search needs
@@ -79,7 +79,7 @@ returns : tie.Need-returns Inv-loop μ-loop
 returns c =
     let a = c .before .before .before .args in
     let l = c .before .before .loop in
-    omega (arith, l .inv .1, down-end (λ x. getD (a .counts .now) x 0) (l .k) (l .left) (a .room) (sym (c .before .goes-on .ensures) ∙ c .if1 .left))
+    omega (arith, l .inv .1, down-end (λ x. getD (a .counts .now) x 0) (l .k) (l .left) (a .room) (sym (c .before .strikes-on .ensures) ∙ c .if1 .left))
 
 pub strike-down-spec : {M : Type 1} → statement M
 strike-down-spec =
@@ -89,9 +89,9 @@ strike-down-spec =
     μ-loop
     add-k
     loop-holds
-    goes-on-requires
+    strikes-on-requires
     sub-k
-    lines-of-requires
+    lines-with-requires
     strike-weight-requires
     add-struck
     loop-less

@@ -1,12 +1,10 @@
 -- `weighing::striking::tally` meets its contract. The invariant: the tally is that of the lines passed.
 -- Assumes nothing.
 use borrow.Author.Needs.{needs}
-use mathlib.Core.Path.{_≡_, refl, sym, _∙_, ap}
-use mathlib.Core.Bool.{Bool}
-use Prim.Native.Nat.{ℕ, _+_, _-_, _≤_, _<_}
+use mathlib.Core.Path.{_≡_, ap}
+use Prim.Native.Nat.{ℕ, _+_, _-_, _≤_}
 use native.Mathlib.Omega.{arith}
 use lib.Dec.{eqb}
-use lib.ListN.{getD}
 use Rattle.weighing.specs.Striking.{linesAt, Tallied}
 use Rattle.weighing.proofs.Tally.{tallied-start, tallied-more}
 use Rattle.weighing.proofs.striking.tally.Statement.{statement}

@@ -1,8 +1,7 @@
 -- `weighing::taking::is_valid` meets its contract.
 -- Assumes nothing.
 use borrow.Author.Needs.{needs}
-use mathlib.Core.Bool.{Bool, true, false, not}
-use mathlib.Core.Path.{_≡_, refl, sym, _∙_, ap}
+use mathlib.Core.Path.{sym}
 use Rattle.weighing.proofs.Taken.{valid-both, valid-apart}
 use Rattle.weighing.proofs.taking.is_valid.Statement.{statement}
 use Rattle.weighing.proofs.taking.is_valid.Tie as tie

@@ -1,19 +1,18 @@
 -- `weighing::taking::take_all` meets its contract. The invariant: the counts, the test and the arrays are those of the nonzeros passed.
 -- Assumes nothing.
 use borrow.Author.Needs.{needs}
-use mathlib.Core.Bool.{Bool, false}
-use mathlib.Core.Path.{_≡_, refl, sym, _∙_, ap}
-use Prim.Native.Nat.{ℕ, _+_, _-_, _≤_, _<_}
+use mathlib.Core.Path.{_≡_, refl}
+use Prim.Native.Nat.{ℕ, _-_, _≤_, _<_}
 use native.Mathlib.Omega.{arith}
 use lib.ListN.{getD}
-use Rattle.counting.specs.Tests.{_and_, pick, bit}
+use Rattle.counting.specs.Tests.{_and_, pick}
 use Rattle.counting.proofs.Joined.{bit-le-one}
 use Rattle.model.specs.declared.Part.the-variants.{Zero, One}
 use Rattle.model.specs.Pattern.{patternOf, on}
 use Rattle.model.specs.Marking.{takes}
 use Rattle.weighing.specs.Cells.{markingIn}
 use Rattle.weighing.proofs.Steps.{pick-named, bit-named, both-named}
-use Rattle.weighing.proofs.Taken.{takes-code, on-code, TakenTo, TakenMore, taken-start, taken-more, taken-end, zero-small, one-small}
+use Rattle.weighing.proofs.Taken.{takes-code, on-code, TakenTo, taken-start, taken-more, taken-end, zero-small, one-small}
 use Rattle.weighing.proofs.taking.take_all.Statement.{statement}
 use Rattle.weighing.proofs.taking.take_all.Tie as tie
 
@@ -32,23 +31,7 @@ first-is :
     c .before .takes-by .result
     ≡ takes (patternOf (a .m) (a .n) (a .nonzeros) (a .list .now)) (markingIn (a .marks .now)) Zero (c .before .before .before .before .before .loop .t)
 first-is c =
-    let a = c .before .before .before .before .before .before .before .args in
-    takes-code
-    (a .m)
-    (a .n)
-    (a .nonzeros)
-    (a .list .now)
-    (a .marks .now)
-    Zero
-    (c .before .before .before .before .before .loop .t)
-    (c .before .before .before .row-of .result)
-    (c .before .before .column-of .result)
-    0
-    (c .before .takes-by .result)
-    (c .before .before .before .row-of .ensures)
-    (c .before .before .column-of .ensures)
-    refl
-    (c .before .takes-by .ensures)
+    takes-code _ _ _ _ _ Zero _ _ _ 0 _ (c .before .before .before .row-of .ensures) (c .before .before .column-of .ensures) refl (c .before .takes-by .ensures)
 
 second-is :
     (c : tie.After-takes-by2 Inv-loop μ-loop) →
@@ -56,23 +39,7 @@ second-is :
     c .takes-by2 .result
     ≡ takes (patternOf (a .m) (a .n) (a .nonzeros) (a .list .now)) (markingIn (a .marks .now)) One (c .before .before .before .before .before .loop .t)
 second-is c =
-    let a = c .before .before .before .before .before .before .before .args in
-    takes-code
-    (a .m)
-    (a .n)
-    (a .nonzeros)
-    (a .list .now)
-    (a .marks .now)
-    One
-    (c .before .before .before .before .before .loop .t)
-    (c .before .before .before .row-of .result)
-    (c .before .before .column-of .result)
-    1
-    (c .takes-by2 .result)
-    (c .before .before .before .row-of .ensures)
-    (c .before .before .column-of .ensures)
-    refl
-    (c .takes-by2 .ensures)
+    takes-code _ _ _ _ _ One _ _ _ 1 _ (c .before .before .before .row-of .ensures) (c .before .before .column-of .ensures) refl (c .takes-by2 .ensures)
 
 -- and sets 1 at its lines
 lines-zero :
@@ -87,18 +54,7 @@ lines-zero c l b =
     let turn = c .before .before .before .before .before .before .before .before .before .loop in
     pick-named _ _ _ _ _ _
     (c .before .before .touch .ensures l b)
-    (on-code
-    (a .m)
-    (a .n)
-    (a .nonzeros)
-    (a .list .now)
-    (a .marks .now)
-    l
-    (turn .t)
-    (c .before .before .before .before .before .before .before .row-of .result)
-    (c .before .before .before .before .before .before .column-of .result)
-    (c .before .before .before .before .before .before .before .row-of .ensures)
-    (c .before .before .before .before .before .before .column-of .ensures))
+    (on-code _ _ _ _ (a .marks .now) l _ _ _ (c .before .before .before .before .before .before .before .row-of .ensures) (c .before .before .before .before .before .before .column-of .ensures))
     (first-is (c .before .before .before .before))
 
 lines-one :
@@ -113,18 +69,7 @@ lines-one c l b =
     let turn = c .before .before .before .before .before .before .before .before .before .loop in
     pick-named _ _ _ _ _ _
     (c .touch2 .ensures l b)
-    (on-code
-    (a .m)
-    (a .n)
-    (a .nonzeros)
-    (a .list .now)
-    (a .marks .now)
-    l
-    (turn .t)
-    (c .before .before .before .before .before .before .before .row-of .result)
-    (c .before .before .before .before .before .before .column-of .result)
-    (c .before .before .before .before .before .before .before .row-of .ensures)
-    (c .before .before .before .before .before .before .column-of .ensures))
+    (on-code _ _ _ _ (a .marks .now) l _ _ _ (c .before .before .before .before .before .before .before .row-of .ensures) (c .before .before .before .before .before .before .column-of .ensures))
     (second-is (c .before .before .before .before))
 
 loop-holds : tie.Need-loop-holds Inv-loop μ-loop

@@ -1,6 +1,5 @@
 -- `weighing::weights::clear` meets its contract.
 -- Assumes nothing.
-use borrow.Author.Needs.{needs}
 use lib.ListN.{getD-replicate}
 use Rattle.weighing.proofs.weights.clear.Statement.{statement}
 use Rattle.weighing.proofs.weights.clear.Tie as tie

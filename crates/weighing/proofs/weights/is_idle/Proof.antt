@@ -1,7 +1,7 @@
 -- `weighing::weights::is_idle` meets its contract.
 -- Assumes nothing.
 use borrow.Author.Needs.{needs}
-use mathlib.Core.Path.{_≡_, _∙_, ap}
+use mathlib.Core.Path.{_∙_, ap}
 use Prim.Native.Nat.{ℕ}
 use lib.Dec.{ltb}
 use lib.ListN.{getD}
@@ -13,8 +13,8 @@ use Rattle.weighing.proofs.weights.is_idle.Tie as tie
 wide-requires : tie.Need-wide-requires
 wide-requires c κs = search needs
 
-mark-at-requires : tie.Need-mark-at-requires
-mark-at-requires c κs = search needs
+line-mark-requires : tie.Need-line-mark-requires
+line-mark-requires c κs = search needs
 
 byte-of-requires : tie.Need-byte-of-requires
 byte-of-requires c κs = search needs
@@ -28,9 +28,9 @@ returns c =
     let line = c .before .before .before .wide in
     and-named _ _ _ _ _
     (c .both-of .ensures)
-    (ap (λ (x : ℕ). ltb x 2) (c .before .before .mark-at .ensures ∙ ap (markingIn (a .marks .now)) (line .ensures .0)))
+    (ap (λ (x : ℕ). ltb x 2) (c .before .before .line-mark .ensures ∙ ap (markingIn (a .marks .now)) (line .ensures .0)))
     (ap (λ (x : ℕ). ltb 1 x) (c .before .byte-of .ensures ∙ ap (λ (x : ℕ). getD (a .lean .now) x 0) (line .ensures .0)))
 
 pub is-idle-spec : {M : Type 1} → statement M
 is-idle-spec =
-    tie.close (tie.spec wide-requires mark-at-requires byte-of-requires both-of-requires returns)
+    tie.close (tie.spec wide-requires line-mark-requires byte-of-requires both-of-requires returns)

@@ -1,6 +1,5 @@
 -- `weighing::weights::once` meets its contract.
 -- Assumes nothing.
-use mathlib.Core.Path.{_≡_, refl, sym, _∙_, ap}
 use native.Mathlib.Omega.{arith}
 use borrow.Author.Needs.{needs}
 use Rattle.counting.proofs.Joined.{bit-le-one}

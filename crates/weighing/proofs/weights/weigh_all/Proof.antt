@@ -1,13 +1,12 @@
 -- `weighing::weights::weigh_all` meets its contract. The invariant: the counts and the weights are those of the nonzeros passed.
 -- Assumes nothing.
 use borrow.Author.Needs.{needs}
-use mathlib.Core.Bool.{Bool}
-use mathlib.Core.Path.{_≡_, refl, sym, _∙_, ap}
+use mathlib.Core.Path.{_≡_, ap}
 use Prim.Native.Nat.{ℕ, _+_, _-_, _≤_, _<_}
 use native.Mathlib.Omega.{arith}
 use lib.ListN.{getD}
 use Rattle.counting.specs.Tests.{_and_, pick, bit}
-use Rattle.counting.proofs.Joined.{bit-le-one}
+use Rattle.counting.proofs.Joined.{bit-le-one, bit-small}
 use Rattle.model.specs.Pattern.{patternOf, on}
 use Rattle.model.specs.Bound.{untaken}
 use Rattle.weighing.specs.Cells.{markingIn, raised}
@@ -25,10 +24,6 @@ Inv-loop m n nonzeros list marks lean weights₀ zero₀ one₀ conflicts₀ t�
 
 abbrev μ-loop : tie.MeasureT-loop
 μ-loop m n nonzeros list marks lean weights₀ zero₀ one₀ conflicts₀ t₀ weights zero one conflicts t = nonzeros - t
-
--- what a nonzero adds is at most 1
-bit-small : (r : ℕ) (b : Bool) → r ≡ bit b → r ≤ 1
-bit-small r b e = omega (arith, bit-le-one b)
 
 clear-requires : tie.Need-clear-requires Inv-loop μ-loop
 clear-requires c κs = search needs

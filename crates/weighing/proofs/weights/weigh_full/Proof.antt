@@ -1,8 +1,7 @@
 -- `weighing::weights::weigh_full` meets its contract. The invariant: the counts and the weights are those of the nonzeros passed.
 -- Assumes nothing.
 use borrow.Author.Needs.{needs}
-use mathlib.Core.Path.{_≡_}
-use Prim.Native.Nat.{ℕ, _+_, _*_, _-_, _≤_, _<_}
+use Prim.Native.Nat.{_-_, _≤_}
 use native.Mathlib.Omega.{arith}
 use Rattle.model.specs.Pattern.{patternOf}
 use Rattle.weighing.specs.Cells.{markingIn}

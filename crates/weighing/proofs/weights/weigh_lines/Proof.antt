@@ -2,7 +2,7 @@
 -- Assumes nothing.
 use borrow.Author.Needs.{needs}
 use borrow.Author.Tests.{leb-true}
-use mathlib.Core.Path.{_≡_, sym, _∙_}
+use mathlib.Core.Path.{sym, _∙_}
 use Rattle.weighing.proofs.weights.weigh_lines.Statement.{statement}
 use Rattle.weighing.proofs.weights.weigh_lines.Tie as tie
 

@@ -1,13 +1,12 @@
 -- `weighing::weights::weigh_one` meets its contract.
 -- Assumes nothing.
 use borrow.Author.Needs.{needs}
-use mathlib.Core.Bool.{Bool, true}
+use mathlib.Core.Bool.{true}
 use mathlib.Core.Path.{_≡_, sym, _∙_, ap}
-use Prim.Native.Nat.{ℕ, _+_, _≤_}
+use Prim.Native.Nat.{ℕ, _+_}
 use native.Mathlib.Omega.{arith}
 use lib.ListN.{getD}
-use Rattle.counting.specs.Tests.{bit}
-use Rattle.counting.proofs.Joined.{bit-le-one}
+use Rattle.counting.proofs.Joined.{bit-le-one, bit-small}
 use Rattle.model.specs.Pattern.{patternOf}
 use Rattle.model.specs.Bound.{untaken}
 use Rattle.weighing.specs.Cells.{markingIn}
@@ -17,10 +16,6 @@ use Rattle.weighing.proofs.Taken.{on-code}
 use Rattle.weighing.proofs.Weighed.{untaken-code, stake-code, conflict-code, taken-adds, idle-adds}
 use Rattle.weighing.proofs.weights.weigh_one.Statement.{statement}
 use Rattle.weighing.proofs.weights.weigh_one.Tie as tie
-
--- what a nonzero adds is at most 1
-bit-small : (r : ℕ) (b : Bool) → r ≡ bit b → r ≤ 1
-bit-small r b e = omega (arith, bit-le-one b)
 
 -- what the calls say of the nonzero
 free-is :

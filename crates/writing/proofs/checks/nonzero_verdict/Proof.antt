@@ -1,7 +1,5 @@
 -- `writing::nonzero_verdict` meets its contract.
 -- Assumes nothing.
-use mathlib.Core.Path.{_≡_, refl, sym, _∙_, ap}
-use Rattle.pattern.specs.Measures.{partVerdict}
 use Rattle.writing.specs.Writing.{nonzeroVerdict}
 use borrow.Author.Needs.{needs}
 use Rattle.writing.proofs.checks.nonzero_verdict.Statement.{statement}

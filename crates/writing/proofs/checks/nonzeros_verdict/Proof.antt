@@ -4,8 +4,9 @@ use mathlib.Core.Path.{_≡_, refl, sym, _∙_, ap}
 use native.Mathlib.Omega.{arith}
 use Prim.Native.Nat.{_≤_, _-_}
 use Rattle.model.specs.declared.Verdict.the-variants.{Accepted}
-use Rattle.pattern.specs.Checks.{eachVerdict}
-use Rattle.pattern.proofs.Verdicts.{accepted-tag, each-more, each-stop}
+use Rattle.model.specs.Refusal.{eachVerdict}
+use Rattle.model.proofs.Theorems.Checks.{each-more, each-stop}
+use Rattle.pattern.proofs.Verdicts.{accepted-tag}
 use Rattle.writing.specs.Writing.{nonzeroVerdict}
 use borrow.Author.Needs.{needs}
 use Rattle.writing.proofs.checks.nonzeros_verdict.Statement.{statement}

@@ -1,8 +1,9 @@
 -- `writing::write_verdict` meets its contract. The casts fit where the sizes are accepted.
 -- Assumes nothing.
-use mathlib.Core.Path.{_≡_, refl, sym, _∙_, ap}
+use mathlib.Core.Path.{sym, _∙_}
 use native.Mathlib.Omega.{arith}
-use Rattle.pattern.proofs.Verdicts.{accepted-tag, nonzeros-small}
+use Rattle.model.proofs.Theorems.Checks.{nonzeros-small}
+use Rattle.pattern.proofs.Verdicts.{accepted-tag}
 use Rattle.writing.proofs.Answers.{verdict-by, verdict-refused}
 use borrow.Author.Needs.{needs}
 use Rattle.writing.proofs.checks.write_verdict.Statement.{statement}
@@ -14,11 +15,11 @@ sizes-verdict-requires c κs = search needs
 enum-told : tie.Need-enum-told
 enum-told c = search needs
 
-mul-either : tie.Need-mul-either
+mul-either : tie.Need-mul-either-of
 mul-either c = omega (arith, nonzeros-small _ _ _ (sym (c .before .before .sizes-verdict .ensures) ∙ accepted-tag _ (c .before .match .keys1)))
 
-either-requires : tie.Need-either-requires
-either-requires c κs = search needs
+either-of-requires : tie.Need-either-of-requires
+either-of-requires c κs = search needs
 
 refuse-if-requires : tie.Need-refuse-if-requires
 refuse-if-requires c κs = search needs
@@ -36,7 +37,7 @@ enum-known-sizes : tie.Need-enum-known-sizes
 enum-known-sizes c = search needs
 
 returns : tie.Need-returns
-returns c = verdict-by _ _ _ _ _ _ _ _ _ (sym (c .before .before .before .before .before .before .sizes-verdict .ensures) ∙ accepted-tag _ (c .before .before .before .before .before .match .keys1)) (c .before .before .before .either .ensures) (c .before .before .refuse-if .ensures) (c .before .nonzeros-verdict .ensures) (c .and-then .ensures)
+returns c = verdict-by _ _ _ _ _ _ _ _ _ (sym (c .before .before .before .before .before .before .sizes-verdict .ensures) ∙ accepted-tag _ (c .before .before .before .before .before .match .keys1)) (c .before .before .before .either-of .ensures) (c .before .before .refuse-if .ensures) (c .before .nonzeros-verdict .ensures) (c .and-then .ensures)
 
 returns-2 : tie.Need-returns-2
 returns-2 c = verdict-refused _ _ _ _ _ _ _ (sym (c .before .before .before .sizes-verdict .ensures) ∙ c .before .sizes .given .1)
@@ -48,7 +49,7 @@ write-verdict-spec =
     sizes-verdict-requires
     enum-told
     mul-either
-    either-requires
+    either-of-requires
     refuse-if-requires
     cast-nonzeros-verdict
     nonzeros-verdict-requires

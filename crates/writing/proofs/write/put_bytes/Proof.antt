@@ -1,7 +1,6 @@
 -- `writing::put_bytes` meets its contract. The loop's invariant: the bytes passed are put.
 -- Assumes nothing.
-use mathlib.Core.Path.{_≡_, refl, sym, _∙_, ap}
-use native.Mathlib.Omega.{arith}
+use mathlib.Core.Path.{_≡_, refl, _∙_, ap}
 use Prim.Native.Nat.{_≤_, _-_, _+_}
 use lib.ListN.{length, take, length-set}
 use Rattle.writing.specs.Written.{Puts}

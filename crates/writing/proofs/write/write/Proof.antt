@@ -1,6 +1,6 @@
 -- `writing::write` meets its contract.
 -- Assumes nothing.
-use mathlib.Core.Path.{_≡_, refl, sym, _∙_, ap}
+use mathlib.Core.Path.{sym, _∙_}
 use native.Mathlib.Omega.{arith}
 use Rattle.pattern.proofs.Verdicts.{accepted-tag}
 use Rattle.writing.proofs.Answers.{write-nonzeros, write-answer-is, write-out-is, write-refused, write-out-kept, write-told}
