@@ -33,31 +33,51 @@ fn same_bytes(first: &[u8], second: &[u8]) -> bool
 }
 
 // Two markings have the same length and bytes, those past it included.
-fn same_trail(a: Trail, b: Trail) -> bool {
+fn same_trail(a: Trail, b: Trail) -> bool
+    ensures { λ r. ⌜ (r ≡ true → a ≡ b) ⌝ }
+{
     let first = a.marks;
     let second = b.marks;
-    a.len == b.len && same_bytes(&first, &second)
-}
-
-// Two searches have the same numbers.
-fn same_numbers(a: Search, b: Search) -> bool {
-    a.m == b.m
-        && a.n == b.n
-        && a.nonzeros == b.nonzeros
-        && a.cap == b.cap
-        && a.tries == b.tries
-        && a.best_count == b.best_count
-        && a.found == b.found
-        && a.complete == b.complete
+    if a.len != b.len {
+        return false;
+    }
+    same_bytes(&first, &second)
 }
 
 // Two searches are the same, field by field and byte by byte.
-pub fn same_search(a: Search, b: Search) -> bool {
+pub fn same_search(a: Search, b: Search) -> bool
+    ensures { λ r. ⌜ (r ≡ true → a ≡ b) ⌝ }
+{
     let first_best = a.best;
     let second_best = b.best;
     let first_trail = a.trail;
     let second_trail = b.trail;
-    same_numbers(a, b)
-        && same_trail(first_best, second_best)
-        && same_trail(first_trail, second_trail)
+    if a.m != b.m {
+        return false;
+    }
+    if a.n != b.n {
+        return false;
+    }
+    if a.nonzeros != b.nonzeros {
+        return false;
+    }
+    if a.cap != b.cap {
+        return false;
+    }
+    if a.tries != b.tries {
+        return false;
+    }
+    if a.best_count != b.best_count {
+        return false;
+    }
+    if a.found != b.found {
+        return false;
+    }
+    if a.complete != b.complete {
+        return false;
+    }
+    if !same_trail(first_best, second_best) {
+        return false;
+    }
+    same_trail(first_trail, second_trail)
 }

@@ -1,7 +1,7 @@
 // Texts and marks laid out in a page.
 use pattern::reading::put;
 ghost use mathlib.Core.Path.{_≡_};
-ghost use Rattle.testing.specs.Laid.{placeAfter, placePast, laid};
+ghost use Rattle.testing.specs.Laid.{placeAfter, placePast, laid, markOf, marksLaid};
 
 // The place after another, up to a million.
 fn place_after(at: usize) -> usize
@@ -26,7 +26,9 @@ pub fn lay(page: &mut [u8], at: usize, bytes: &[u8]) -> usize
 }
 
 // The mark that a letter stands for: 0, 1, c for cut, any other letter for a byte that is no mark.
-fn mark_of(letter: u8) -> u8 {
+fn mark_of(letter: u8) -> u8
+    ensures { λ r. ⌜ r ≡ markOf letter ⌝ }
+{
     match letter {
         b'0' => 0,
         b'1' => 1,
@@ -36,7 +38,9 @@ fn mark_of(letter: u8) -> u8 {
 }
 
 // The marks of letters, laid out from a page's start on.
-pub fn lay_marks(page: &mut [u8], letters: &[u8]) {
+pub fn lay_marks(page: &mut [u8], letters: &[u8])
+    ensures { λ _. ⌜ now (page .exit) ≡ marksLaid (now (page .entry)) 0 (now (letters .entry)) ⌝ }
+{
     let mut i: usize = 0;
     while i < letters.len() {
         put(page, i, mark_of(letters[i]));
