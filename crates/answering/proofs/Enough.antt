@@ -44,15 +44,15 @@ past-same p q at (suc k) h =
     ∙ ap (λ (x : ℕ). pick (q at) x at) (past-same p q (at + 1) k (λ i l. h i (omega arith)))
 
 module _ (a b : List ℕ) (same : Alike a b) where
-  run-same : (run : Stretch) (at stop : ℕ) → at ≤ 64 → stop ≤ 64 → stretchEnd run a at stop ≡ stretchEnd run b at stop
+  stretch-same : (stretch : Stretch) (at stop : ℕ) → at ≤ 64 → stop ≤ 64 → stretchEnd stretch a at stop ≡ stretchEnd stretch b at stop
   unfolding stretchEnd stretchesAt
-  run-same run at stop h g =
+  stretch-same stretch at stop h g =
       past-same
-      (λ i. stretchesOver run (classOf (getD a i 0)))
-      (λ i. stretchesOver run (classOf (getD b i 0)))
+      (λ i. stretchesOver stretch (classOf (getD a i 0)))
+      (λ i. stretchesOver stretch (classOf (getD b i 0)))
       at
       (stop - at)
-      (λ i l. ap (λ (x : ℕ). stretchesOver run (classOf x)) (same i (omega arith)))
+      (λ i l. ap (λ (x : ℕ). stretchesOver stretch (classOf x)) (same i (omega arith)))
 
   word-same :
       (from stop : ℕ) (word : List ℕ) → from + length word ≤ 64 → sameWord a from stop false word ≡ sameWord b from stop false word
@@ -70,7 +70,7 @@ module _ (a b : List ℕ) (same : Alike a b) where
   number-same : (from stop : ℕ) → from ≤ 64 → stop ≤ 64 → isNumber a from stop ≡ isNumber b from stop
   unfolding isNumber
   number-same from stop h g =
-      ap (λ (x : ℕ). ltb from stop and (leb (stop - from) 9 and eqb x stop)) (run-same Digits from stop h g)
+      ap (λ (x : ℕ). ltb from stop and (leb (stop - from) 9 and eqb x stop)) (stretch-same Digits from stop h g)
 
   digits-same : (from k : ℕ) → from + k ≤ 64 → valueOf a from k ≡ valueOf b from k
   unfolding valueOf
@@ -96,7 +96,7 @@ module _ (a b : List ℕ) (same : Alike a b) where
       let starts : 8 ≤ stop = stretch-after Digits b 8 18 in
       let later : stop + 8 ≤ end = stretch-after Digits b (stop + 8) (stop + 8 + 10) in
       rw
-      (run-same Digits 8 18 (omega arith) (omega arith), run-same Digits (stop + 8) (stop + 8 + 10) (omega arith) (omega arith), word-same 0 8 #percent (omega arith), word-same stop (stop + 8) #budget (omega arith), number-same 8 stop (omega arith) (omega arith), number-same (stop + 8) end (omega arith) (omega arith), value-same 8 stop starts (omega arith), value-same (stop + 8) end later (omega arith), same end (omega arith))
+      (stretch-same Digits 8 18 (omega arith) (omega arith), stretch-same Digits (stop + 8) (stop + 8 + 10) (omega arith) (omega arith), word-same 0 8 #percent (omega arith), word-same stop (stop + 8) #budget (omega arith), number-same 8 stop (omega arith) (omega arith), number-same (stop + 8) end (omega arith) (omega arith), value-same 8 stop starts (omega arith), value-same (stop + 8) end later (omega arith), same end (omega arith))
 
 -- where the text starts
 command-next : (input : List ℕ) → commandOf input .next ≤ 64

@@ -19,7 +19,7 @@ use Rattle.model.specs.Split.{Split, Meets, volume}
 use Rattle.model.specs.Walk.{Record, rulesOf, floor}
 use Rattle.model.specs.Calls.{shownFrom, shown, partBytes, shownParts, shownAfter, partsAfter, showReply, shownReply}
 use Rattle.model.proofs.Theorems.Replies.{show-by-verdict}
-use Rattle.showing.proofs.Same.{bytes-length, bytes-rest, byte-back, volume-back, meets-back}
+use Rattle.showing.proofs.ReadBack.{bytes-length, bytes-rest, byte-back, volume-back, meets-back}
 use Rattle.search.specs.Demand.{SplitAnswered, ShowAnswered}
 
 -- what the claims on a showing rest on: the facts of demand 3 at a record

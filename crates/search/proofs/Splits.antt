@@ -23,7 +23,7 @@ use Rattle.weighing.specs.Cells.{markingIn}
 use Rattle.bound.specs.declared.Evaluation.{Evaluation}
 use Rattle.bound.specs.Evaluated.{Listed, Placed, Evaluates}
 use Rattle.bound.proofs.Evaluations.{by-line}
-use Rattle.showing.proofs.Same.{volume-back}
+use Rattle.showing.proofs.ReadBack.{volume-back}
 use Rattle.state.specs.Holding.{clearedTo}
 use Rattle.state.proofs.Normal.{cleared-is}
 use Rattle.state.proofs.StateLaws.{marks-length}

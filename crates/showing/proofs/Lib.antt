@@ -1,2 +1,2 @@
-pub mod Same
+pub mod ReadBack
 pub mod Written

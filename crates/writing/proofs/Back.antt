@@ -18,7 +18,7 @@ use Rattle.scanning.specs.Lines.{stretchesAt, stretchEnd, lineStop, hasReturn, 
 use Rattle.scanning.specs.Words.{numberAt, endsAt, threeAt}
 use Rattle.scanning.proofs.Scans.{stretch-here, stretch-over, stretch-on, end-without, next-more}
 use Rattle.writing.specs.Written.{decimals, numberText, sizesText}
-use Rattle.writing.proofs.Held.{Holds, holds-left, holds-right, every, every-at, run-whole, digit-class, decimals-every, decimals-some, number-back}
+use Rattle.writing.proofs.Held.{Holds, holds-left, holds-right, every, every-at, stretch-whole, digit-class, decimals-every, decimals-some, number-back}
 
 -- the bytes of a line: neither LF nor CR
 unfoldable pub plain : ℕ → Bool
@@ -56,7 +56,7 @@ module _
   pub stop-back : lineStop text at ≡ at + length body
   unfolding lineStop stretchesAt
   stop-back =
-      run-whole Line text body at (length text) (holds-left body (10 ∷ []) held) (line-goes body fine) (omega arith)
+      stretch-whole Line text body at (length text) (holds-left body (10 ∷ []) held) (line-goes body fine) (omega arith)
       ∙ stretch-here Line text (at + length body) (length text) (ap (λ b. stretchesOver Line (classOf b)) line-feed ∙ ap (stretchesOver Line) feed-class)
 
   no-return : hasReturn text at (at + length body) ≡ false

@@ -1,4 +1,4 @@
--- What a text holds from a place on, and how runs and numbers go over it: the ground for reading back what was written.
+-- What a text holds from a place on, and how stretches and numbers go over it: the ground for reading back what was written.
 -- Assumes nothing.
 use mathlib.Core.Bool.{Bool, true, false}
 use mathlib.Core.List.{List, [], _∷_, _++_}
@@ -60,23 +60,23 @@ every-at test (b ∷ s) zero p l = and-left (test b) (every test s) p
 every-at test (b ∷ s) (suc i) p l = every-at test s i (and-right (test b) (every test s) p) (omega arith)
 
 -- a stretch goes over bytes that it goes on over
-pub run-through :
+pub stretch-through :
     (stretch : Stretch) (text bytes : List ℕ) (at stop k : ℕ) → Holds text at bytes → every (λ b. stretchesOver stretch (classOf b)) bytes ≡ true →
     at + length bytes ≤ stop → k ≤ length bytes → stretchEnd stretch text at stop ≡ stretchEnd stretch text (at + k) stop
 unfolding stretchesAt
-run-through stretch text bytes at stop zero h p r l =
+stretch-through stretch text bytes at stop zero h p r l =
     let e : at ≡ at + 0 = omega arith in
     ap (λ x. stretchEnd stretch text x stop) e
-run-through stretch text bytes at stop (suc k) h p r l =
+stretch-through stretch text bytes at stop (suc k) h p r l =
     let e : at + k + 1 ≡ at + suc k = omega arith in
-    run-through stretch text bytes at stop k h p r (omega arith)
+    stretch-through stretch text bytes at stop k h p r (omega arith)
     ∙ stretch-on stretch text (at + k) stop (omega arith) (ap (λ b. stretchesOver stretch (classOf b)) (h .at-each k (omega arith)) ∙ every-at (λ b. stretchesOver stretch (classOf b)) bytes k p (omega arith))
     ∙ ap (λ x. stretchEnd stretch text x stop) e
 
-pub run-whole :
+pub stretch-whole :
     (stretch : Stretch) (text bytes : List ℕ) (at stop : ℕ) → Holds text at bytes → every (λ b. stretchesOver stretch (classOf b)) bytes ≡ true →
     at + length bytes ≤ stop → stretchEnd stretch text at stop ≡ stretchEnd stretch text (at + length bytes) stop
-run-whole stretch text bytes at stop h p r = run-through stretch text bytes at stop (length bytes) h p r (omega arith)
+stretch-whole stretch text bytes at stop h p r = stretch-through stretch text bytes at stop (length bytes) h p r (omega arith)
 
 -- a digit's byte
 pub digit-class : (d : ℕ) → d < 10 → classOf (48 + d) ≡ Digit
@@ -189,15 +189,15 @@ decimals-fit (suc k) (suc j) n l =
     (λ e. omega (arith, higher-length k n, ap length (higher-none k n e)))
     (λ e. omega (arith, higher-length k n, ap length (higher-some k n e), decimals-fit k j (n / 10) (omega (arith, div-add-mod' n 10, pow-suc 10 (suc j)))))
 
--- what runs do at a digit
+-- what stretches do at a digit
 digit-goes : (stretch : Stretch) (d : ℕ) → d < 10 → stretchesOver stretch Digit ≡ true → stretchesOver stretch (classOf (48 + d)) ≡ true
 digit-goes stretch d l h = ap (stretchesOver stretch) (digit-class d l) ∙ h
 
-pub run-number :
+pub stretch-number :
     (stretch : Stretch) (text : List ℕ) (from stop k n : ℕ) → stretchesOver stretch Digit ≡ true → Holds text from (decimals k n) →
     from + length (decimals k n) ≤ stop → stretchEnd stretch text from stop ≡ stretchEnd stretch text (from + length (decimals k n)) stop
-run-number stretch text from stop k n g h r =
-    run-whole stretch text (decimals k n) from stop h (decimals-every (λ b. stretchesOver stretch (classOf b)) (λ d l. digit-goes stretch d l g) k n) r
+stretch-number stretch text from stop k n g h r =
+    stretch-whole stretch text (decimals k n) from stop h (decimals-every (λ b. stretchesOver stretch (classOf b)) (λ d l. digit-goes stretch d l g) k n) r
 
 -- a number that was written is a number, and reads as its value
 module _
@@ -205,7 +205,7 @@ module _
     (small : n < 10 ^ 9) (inside : from + length (decimals 20 n) ≤ end)
     (ends : stretchEnd Nonblanks text (from + length (decimals 20 n)) end ≡ from + length (decimals 20 n)) where
   stops : stretchEnd Nonblanks text from end ≡ from + length (decimals 20 n)
-  stops = run-number Nonblanks text from end 20 n refl held inside ∙ ends
+  stops = stretch-number Nonblanks text from end 20 n refl held inside ∙ ends
 
   is-number : isNumber text from (from + length (decimals 20 n)) ≡ true
   unfolding isNumber
@@ -213,7 +213,7 @@ module _
       let len = length (decimals 20 n) in
       let one = decimals-some 19 n in
       let nine = decimals-fit 20 8 n small in
-      let digits = run-number Digits text from (from + len) 20 n refl held (omega arith) ∙ stretch-over Digits text (from + len) (from + len) (omega arith) in
+      let digits = stretch-number Digits text from (from + len) 20 n refl held (omega arith) ∙ stretch-over Digits text (from + len) (from + len) (omega arith) in
       and-intro
       (lt-ltb from (from + len) (omega arith))
       (and-intro (le-leb (from + len - from) 9 (omega arith)) (eq-eqb (stretchEnd Digits text from (from + len)) (from + len) digits))
