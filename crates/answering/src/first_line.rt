@@ -1,7 +1,7 @@
 // The first line of the input: percent E budget B.
 use crate::Command;
+use counting::joining::both_of;
 use pattern::reading::byte_at;
-use pattern::tests::both_of;
 use scanning::Stretch;
 use scanning::lines::stretch_end;
 use scanning::words::is_number;

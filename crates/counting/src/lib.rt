@@ -1,1 +1,2 @@
-// No functions: sums, counts and tests over the numbers below a bound, and their laws.
+// Sums, counts and tests over the numbers below a bound: specs/ defines them, and the code joins tests here.
+pub mod joining;

@@ -7,7 +7,6 @@ pub mod measures;
 pub mod reading;
 pub mod refusals;
 pub mod splits;
-pub mod tests;
 
 // A volume or a load, or a refusal.
 pub enum Measured {

@@ -4,7 +4,7 @@ use crate::reading::column_of;
 use crate::reading::row_of;
 use crate::reading::wide;
 use crate::reading::wide16;
-use crate::tests::both_of;
+use counting::joining::both_of;
 use model::Part;
 ghost use mathlib.Core.Path.{_≡_};
 ghost use Rattle.counting.specs.Tests.{bit};

@@ -3,9 +3,9 @@ use crate::Stretch;
 use crate::classes::class_of;
 use crate::classes::is_percent;
 use crate::classes::stretches_over;
+use counting::joining::either_of;
 use pattern::reading::byte_at;
 use pattern::reading::less;
-use pattern::tests::either_of;
 ghost use mathlib.Core.Path.{_≡_};
 ghost use Rattle.scanning.specs.Lines.{stretchesAt, stretchEnd, lineStop, hasReturn, lineEnd, lineNext, emptyLine, isComment, passedOver, skipped};
 

@@ -1,12 +1,12 @@
 // Writing the split that a search shows: one pass over the nonzeros, in number order.
+use counting::joining::bit_of;
+use counting::joining::both_of;
+use counting::joining::either_of;
 use pattern::reading::column_of;
 use pattern::reading::long16;
 use pattern::reading::put;
 use pattern::reading::row_of;
 use pattern::reading::wide16;
-use pattern::tests::bit_of;
-use pattern::tests::both_of;
-use pattern::tests::either_of;
 use weighing::taking::takes_by;
 ghost use mathlib.Core.Bool.{not};
 ghost use mathlib.Core.Path.{_≡_};

@@ -1,12 +1,12 @@
 // The first line and the size line.
 use crate::Banner;
 use crate::Header;
+use counting::joining::both_of;
+use counting::joining::either_of;
 use model::Verdict;
 use model::Word;
 use pattern::checks::and_then;
 use pattern::checks::sizes_verdict;
-use pattern::tests::both_of;
-use pattern::tests::either_of;
 use readings::size_line;
 use scanning::Stretch;
 use scanning::lines::line_end;

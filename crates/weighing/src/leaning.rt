@@ -2,11 +2,11 @@
 use crate::cells::byte_of;
 use crate::cells::line_mark;
 use crate::cells::put_at;
+use counting::joining::bit_of;
 use model::Condition;
 use model::Mark;
 use model::Part;
 use pattern::reading::wide;
-use pattern::tests::bit_of;
 ghost use mathlib.Core.Bool.{not};
 ghost use mathlib.Core.Path.{_≡_};
 ghost use Prim.Native.Nat.{_+_};

@@ -2,10 +2,10 @@
 use crate::cells::byte_of;
 use crate::cells::raise;
 use crate::cells::word_or;
+use counting::joining::both_of;
 use pattern::reading::less16;
 use pattern::reading::wide;
 use pattern::reading::wide16;
-use pattern::tests::both_of;
 ghost use mathlib.Core.Path.{_≡_};
 ghost use Prim.Native.Nat.{ℕ, _+_, _-_, _<_};
 ghost use lib.Dec.{eqb, ltb, leb};

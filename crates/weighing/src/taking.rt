@@ -1,12 +1,12 @@
 // What a marking takes: one pass over the nonzeros.
 use crate::cells::line_mark;
 use crate::cells::put_if;
+use counting::joining::bit_of;
+use counting::joining::both_of;
+use counting::joining::either_of;
 use pattern::reading::column_of;
 use pattern::reading::row_of;
 use pattern::reading::wide;
-use pattern::tests::bit_of;
-use pattern::tests::both_of;
-use pattern::tests::either_of;
 ghost use mathlib.Core.Bool.{false};
 ghost use mathlib.Core.Path.{_≡_};
 ghost use Prim.Native.Nat.{ℕ, _+_, _<_};

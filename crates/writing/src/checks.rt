@@ -1,4 +1,5 @@
 // The checks of the writer, in the refusal table's order.
+use counting::joining::either_of;
 use model::Verdict;
 use model::Word;
 use pattern::checks::and_then;
@@ -6,7 +7,6 @@ use pattern::checks::entry_verdict;
 use pattern::checks::sizes_verdict;
 use pattern::measures::part_verdict;
 use pattern::reading::wide16;
-use pattern::tests::either_of;
 use scanning::tests::refuse_if;
 ghost use mathlib.Core.Path.{_≡_};
 ghost use Rattle.model.specs.Refusal.{eachVerdict};

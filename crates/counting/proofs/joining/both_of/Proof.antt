@@ -1,8 +1,8 @@
--- `pattern::tests::both_of` meets its contract. A test's value by its first test.
+-- `counting::joining::both_of` meets its contract. A test's value by its first test.
 -- Assumes nothing.
 use Rattle.counting.specs.Tests.{_and_}
-use Rattle.pattern.proofs.tests.both_of.Statement.{statement}
-use Rattle.pattern.proofs.tests.both_of.Tie as tie
+use Rattle.counting.proofs.joining.both_of.Statement.{statement}
+use Rattle.counting.proofs.joining.both_of.Tie as tie
 
 returns : tie.Need-returns
 unfolding _and_

@@ -1,8 +1,8 @@
--- `pattern::tests::either_of` meets its contract.
+-- `counting::joining::either_of` meets its contract.
 -- Assumes nothing.
 use Rattle.counting.specs.Tests.{_or_}
-use Rattle.pattern.proofs.tests.either_of.Statement.{statement}
-use Rattle.pattern.proofs.tests.either_of.Tie as tie
+use Rattle.counting.proofs.joining.either_of.Statement.{statement}
+use Rattle.counting.proofs.joining.either_of.Tie as tie
 
 returns : tie.Need-returns
 unfolding _or_

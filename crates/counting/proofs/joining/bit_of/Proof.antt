@@ -1,9 +1,9 @@
--- `pattern::tests::bit_of` meets its contract.
+-- `counting::joining::bit_of` meets its contract.
 -- Assumes nothing.
 use borrow.Author.Needs.{needs}
 use Rattle.counting.specs.Tests.{bit}
-use Rattle.pattern.proofs.tests.bit_of.Statement.{statement}
-use Rattle.pattern.proofs.tests.bit_of.Tie as tie
+use Rattle.counting.proofs.joining.bit_of.Statement.{statement}
+use Rattle.counting.proofs.joining.bit_of.Tie as tie
 
 returns : tie.Need-returns
 unfolding bit
