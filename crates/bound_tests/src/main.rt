@@ -1,9 +1,15 @@
-// Prints what an evaluation says of markings of several patterns, in the words of the list of expected bounds.
+// Prints what an evaluation says of markings of several patterns, in the words of the list of expected bounds. Its input has the cases.
 use bound::Evaluation;
 use bound::evaluating::evaluate_lines;
+use libc::STDIN_FILENO;
 use marking::marks::unmarked_lines;
 use matching::starts::row_starts;
+use pattern::reading::byte_at;
 use pattern::reading::long16;
+use testing::Kind;
+use testing::cases::field_at;
+use testing::cases::number_at;
+use testing::laying::first;
 use testing::laying::lay_marks;
 use testing::saying::say;
 use testing::saying::say_number;
@@ -29,312 +35,93 @@ fn say_all(e: Evaluation) {
     say(b"\n");
 }
 
+// A pattern and a cap as a case gives them, and the place of the next case.
+struct Given {
+    m: u8,
+    n: u8,
+    nonzeros: u16,
+    cap: u64,
+    list: [u8; 64],
+    len: usize,
+    next: usize,
+}
+
+// The pattern whose case starts at a place.
+fn given_at(cases: &[u8], at: usize) -> Given {
+    let mut list = [0u8; 64];
+    let kind = field_at(cases, at, Kind::Text, &mut []);
+    let m = number_at(cases, kind.next);
+    let n = number_at(cases, m.next);
+    let nonzeros = number_at(cases, n.next);
+    let cap = number_at(cases, nonzeros.next);
+    let listed = field_at(cases, cap.next, Kind::Numbers, &mut list);
+    Given {
+        m: (m.value % 256) as u8,
+        n: (n.value % 256) as u8,
+        nonzeros: (nonzeros.value % 65536) as u16,
+        cap: cap.value,
+        list,
+        len: listed.value as usize,
+        next: listed.next,
+    }
+}
+
 // The evaluation of a marking that is given by letters.
-fn show(m: u8, n: u8, nonzeros: u16, list: &[u8], cap: u64, text: &[u8]) {
-    let starts = row_starts(list, nonzeros);
+fn say_marking(given: Given, letters: &[u8]) {
+    let page = given.list;
+    let list = first(&page, given.len);
+    let starts = row_starts(list, given.nonzeros);
     let mut marks = unmarked_lines();
-    lay_marks(&mut marks, text);
-    let e = evaluate_lines(m, n, nonzeros, list, cap, &starts, &marks);
-    say(text);
+    lay_marks(&mut marks, letters);
+    let e = evaluate_lines(
+        given.m,
+        given.n,
+        given.nonzeros,
+        list,
+        given.cap,
+        &starts,
+        &marks,
+    );
+    say(letters);
     say_all(e);
 }
 
-// 2 rows, 2 columns, 3 nonzeros, cap 2.
-fn pattern_0() {
-    let list = [0u8, 0, 0, 1, 1, 1];
-    show(2, 2, 3, &list, 2, b"-10-");
+// A marking of a pattern, and the place of the next case.
+fn marking_at(cases: &[u8], at: usize, given: Given) -> usize {
+    let mut page = [0u8; 64];
+    let letters = field_at(cases, at, Kind::Text, &mut page);
+    say_marking(given, first(&page, letters.value as usize));
+    letters.next
 }
 
-// 4 rows, 4 columns, 5 nonzeros, cap 3.
-fn pattern_1() {
-    let list = [0u8, 0, 0, 2, 1, 0, 2, 0, 3, 1];
-    show(4, 4, 5, &list, 3, b"1---c0-0");
-    show(4, 4, 5, &list, 3, b"1-----11");
-    show(4, 4, 5, &list, 3, b"00-0--1-");
-    show(4, 4, 5, &list, 3, b"-0----10");
+// One case, and the place of the next one. The pattern is the one whose case starts at `last`.
+fn case_at(cases: &[u8], at: usize, last: usize) -> usize {
+    let kind = field_at(cases, at, Kind::Text, &mut []);
+    let given = given_at(cases, last);
+    match byte_at(cases, at) {
+        b'p' => given.next,
+        b'm' => marking_at(cases, kind.next, given),
+        _ => kind.next,
+    }
 }
 
-// 2 rows, 6 columns, 5 nonzeros, cap 6.
-fn pattern_2() {
-    let list = [0u8, 3, 0, 4, 1, 1, 1, 2, 1, 4];
-    show(2, 6, 5, &list, 6, b"-0------");
-    show(2, 6, 5, &list, 6, b"-001c-1-");
-    show(2, 6, 5, &list, 6, b"1-c-0---");
+// The place of the last case that gives a pattern, once the one at a place is counted in.
+fn pattern_at(cases: &[u8], at: usize, last: usize) -> usize {
+    if byte_at(cases, at) == b'p' { at } else { last }
 }
 
-// 4 rows, 5 columns, 8 nonzeros, cap 4.
-fn pattern_3() {
-    let list = [0u8, 3, 0, 4, 1, 0, 1, 2, 1, 4, 2, 2, 3, 1, 3, 2];
-    show(4, 5, 8, &list, 4, b"----1c--0");
-    show(4, 5, 8, &list, 4, b"01-0---00");
-    show(4, 5, 8, &list, 4, b"---01----");
-    show(4, 5, 8, &list, 4, b"1-01-c---");
-}
-
-// 3 rows, 6 columns, 2 nonzeros, cap 2.
-fn pattern_4() {
-    let list = [1u8, 2, 2, 1];
-    show(3, 6, 2, &list, 2, b"c-1--c1-1");
-    show(3, 6, 2, &list, 2, b"-1---0---");
-}
-
-// 6 rows, 4 columns, 17 nonzeros, cap 9.
-fn pattern_5() {
-    let list = [
-        0u8,
-        0,
-        0,
-        2,
-        0,
-        3,
-        1,
-        2,
-        1,
-        3,
-        2,
-        0,
-        2,
-        1,
-        2,
-        2,
-        3,
-        0,
-        3,
-        1,
-        3,
-        2,
-        4,
-        0,
-        4,
-        1,
-        4,
-        3,
-        5,
-        0,
-        5,
-        2,
-        5,
-        3,
-    ];
-    show(6, 4, 17, &list, 9, b"c-cc-1--01");
-    show(6, 4, 17, &list, 9, b"-c-c-c100-");
-    show(6, 4, 17, &list, 9, b"--0--0-c-0");
-    show(6, 4, 17, &list, 9, b"0------10-");
-}
-
-// 2 rows, 3 columns, 6 nonzeros, cap 3.
-fn pattern_6() {
-    let list = [0u8, 0, 0, 1, 0, 2, 1, 0, 1, 1, 1, 2];
-    show(2, 3, 6, &list, 3, b"-1-10");
-    show(2, 3, 6, &list, 3, b"-1-c-");
-    show(2, 3, 6, &list, 3, b"01---");
-}
-
-// 5 rows, 3 columns, 11 nonzeros, cap 7.
-fn pattern_7() {
-    let list = [
-        0u8,
-        1,
-        0,
-        2,
-        1,
-        1,
-        1,
-        2,
-        2,
-        0,
-        2,
-        1,
-        3,
-        0,
-        3,
-        1,
-        3,
-        2,
-        4,
-        0,
-        4,
-        1,
-    ];
-    show(5, 3, 11, &list, 7, b"0-c----1");
-    show(5, 3, 11, &list, 7, b"--cc---1");
-    show(5, 3, 11, &list, 7, b"c0----0-");
-    show(5, 3, 11, &list, 7, b"--0-0--1");
-}
-
-// 5 rows, 4 columns, 6 nonzeros, cap 3.
-fn pattern_8() {
-    let list = [0u8, 2, 1, 1, 1, 2, 2, 3, 3, 0, 3, 1];
-    show(5, 4, 6, &list, 3, b"-0----1-1");
-    show(5, 4, 6, &list, 3, b"-c-00-0--");
-    show(5, 4, 6, &list, 3, b"c-c---c00");
-    show(5, 4, 6, &list, 3, b"-1c--0--1");
-}
-
-// 5 rows, 2 columns, 4 nonzeros, cap 5.
-fn pattern_9() {
-    let list = [0u8, 1, 1, 1, 2, 0, 3, 1];
-    show(5, 2, 4, &list, 5, b"-----0c");
-    show(5, 2, 4, &list, 5, b"--0-010");
-}
-
-// 5 rows, 3 columns, 13 nonzeros, cap 7.
-fn pattern_10() {
-    let list = [
-        0u8,
-        0,
-        0,
-        1,
-        0,
-        2,
-        1,
-        1,
-        1,
-        2,
-        2,
-        0,
-        2,
-        1,
-        2,
-        2,
-        3,
-        0,
-        3,
-        1,
-        3,
-        2,
-        4,
-        0,
-        4,
-        2,
-    ];
-    show(5, 3, 13, &list, 7, b"---0c00c");
-    show(5, 3, 13, &list, 7, b"--------");
-    show(5, 3, 13, &list, 7, b"-c--0-0-");
-    show(5, 3, 13, &list, 7, b"-0---1-c");
-}
-
-// 5 rows, 6 columns, 17 nonzeros, cap 9.
-fn pattern_11() {
-    let list = [
-        0u8,
-        0,
-        0,
-        2,
-        0,
-        3,
-        0,
-        4,
-        1,
-        1,
-        1,
-        2,
-        1,
-        3,
-        1,
-        5,
-        2,
-        0,
-        2,
-        1,
-        2,
-        2,
-        2,
-        4,
-        2,
-        5,
-        3,
-        2,
-        3,
-        5,
-        4,
-        3,
-        4,
-        5,
-    ];
-    show(5, 6, 17, &list, 9, b"c0--1-0-00-");
-    show(5, 6, 17, &list, 9, b"-0---c--cc-");
-    show(5, 6, 17, &list, 9, b"c----c-cc--");
-    show(5, 6, 17, &list, 9, b"---0-----1c");
-}
-
-// 4 rows, 4 columns, 4 nonzeros, cap 2.
-fn pattern_12() {
-    let list = [0u8, 0, 0, 1, 2, 0, 2, 3];
-    show(4, 4, 4, &list, 2, b"1--1-c0-");
-    show(4, 4, 4, &list, 2, b"cc---0--");
-    show(4, 4, 4, &list, 2, b"-0--0-10");
-    show(4, 4, 4, &list, 2, b"0--0---1");
-}
-
-// 3 rows, 2 columns, 3 nonzeros, cap 3.
-fn pattern_13() {
-    let list = [0u8, 0, 1, 1, 2, 1];
-    show(3, 2, 3, &list, 3, b"-c0c-");
-    show(3, 2, 3, &list, 3, b"-10-0");
-}
-
-// 5 rows, 4 columns, 18 nonzeros, cap 9.
-fn pattern_14() {
-    let list = [
-        0u8,
-        0,
-        0,
-        1,
-        0,
-        2,
-        0,
-        3,
-        1,
-        0,
-        1,
-        1,
-        1,
-        2,
-        2,
-        0,
-        2,
-        1,
-        2,
-        2,
-        2,
-        3,
-        3,
-        0,
-        3,
-        1,
-        3,
-        2,
-        3,
-        3,
-        4,
-        0,
-        4,
-        2,
-        4,
-        3,
-    ];
-    show(5, 4, 18, &list, 9, b"-c--c1-01");
-    show(5, 4, 18, &list, 9, b"-0--cc-00");
-    show(5, 4, 18, &list, 9, b"---0-0-c-");
-    show(5, 4, 18, &list, 9, b"----0c1--");
-}
-
-// Every pattern in turn.
+// Reads the cases and answers each of them in turn.
 fn main() {
-    pattern_0();
-    pattern_1();
-    pattern_2();
-    pattern_3();
-    pattern_4();
-    pattern_5();
-    pattern_6();
-    pattern_7();
-    pattern_8();
-    pattern_9();
-    pattern_10();
-    pattern_11();
-    pattern_12();
-    pattern_13();
-    pattern_14();
+    let mut cases = [0u8; 4096];
+    let len = io::read_full(STDIN_FILENO, &mut cases);
+    let mut last: usize = 0;
+    let mut at: usize = 0;
+    while at < len {
+        last = pattern_at(&cases, at, last);
+        let next = case_at(&cases, at, last);
+        if next <= at {
+            return;
+        }
+        at = next;
+    }
 }

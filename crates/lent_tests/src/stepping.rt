@@ -1,11 +1,17 @@
 // The history of a search: after each call the answers and the searches of both ways are compared.
+use crate::Turn;
 use crate::lending::lend;
 use model::Ran;
 use model::RunAnswer;
 use model::Search;
 use pattern::refusals::refusal_number;
+use testing::Kind;
+use testing::cases::field_at;
+use testing::cases::number_at;
 use testing::comparing::same_search;
+use testing::laying::first;
 use testing::saying::say;
+use testing::saying::say_field;
 use testing::saying::say_number;
 use testing::saying::say_run;
 use testing::saying::say_which;
@@ -43,22 +49,13 @@ fn say_both(first: Ran, second: Ran) {
 }
 
 // A run with a budget and a try after it, lent and by value, on a line of its own; and the search that was lent.
-fn step(
-    words: &[u8],
-    search: Search,
-    m: u64,
-    n: u64,
-    nonzeros: u64,
-    list: &[u8],
-    budget: u64,
-) -> Search {
+fn step(search: Search, m: u64, n: u64, nonzeros: u64, list: &[u8], budget: u64) -> Search {
     let lent = lend(search, m, n, nonzeros, list, budget);
     let ran = search::run(search, m, n, nonzeros, list, budget);
     let between = ran.search;
     let tried = search::run(between, m, n, nonzeros, list, 1);
     let first = lent.ran;
     let second = lent.tried;
-    say(words);
     say(b": run");
     say_both(first, ran);
     say(b", try");
@@ -67,49 +64,45 @@ fn step(
     second.search
 }
 
+// The step that a case gives.
+pub(crate) fn step_case(cases: &[u8], at: usize, search: Search) -> Turn {
+    let mut list = [0u8; 16];
+    let m = number_at(cases, say_field(cases, at));
+    let n = number_at(cases, m.next);
+    let nonzeros = number_at(cases, n.next);
+    let listed = field_at(cases, nonzeros.next, Kind::Numbers, &mut list);
+    let budget = number_at(cases, listed.next);
+    let search = step(
+        search,
+        m.value,
+        n.value,
+        nonzeros.value,
+        first(&list, listed.value as usize),
+        budget.value,
+    );
+    Turn {
+        search,
+        next: budget.next,
+    }
+}
+
 // The list of the 3 by 2 pattern that is searched.
 fn listed() -> [u8; 8] {
     [0, 0, 0, 1, 1, 0, 2, 1]
 }
 
-// A run with this budget, and a try, on the pattern's list.
-fn go(words: &[u8], search: Search, budget: u64) -> Search {
-    let list = listed();
-    step(words, search, 3, 2, 4, &list, budget)
-}
-
-// A fresh search, and its first steps.
-fn first_steps() -> Search {
+// A fresh search of the pattern.
+pub(crate) fn fresh() -> Search {
     let list = listed();
     let opened = search::open(3, 2, 4, &list, 2);
-    let search = opened.search;
-    let a = go(b"fresh, budget 0", search, 0);
-    let b = go(b"budget 1", a, 1);
-    let c = go(b"budget 5", b, 5);
-    go(b"budget over the limit", c, 1_000_001)
+    opened.search
 }
 
-// Sizes that are refused, or are not the search's own.
-fn other_sizes(search: Search) -> Search {
+// A run with this budget, and a try, on the pattern's list.
+fn go(words: &[u8], search: Search, budget: u64) {
     let list = listed();
-    let a = step(b"no rows", search, 0, 2, 4, &list, 3);
-    step(b"another size", a, 3, 3, 4, &list, 3)
-}
-
-// Lists that are refused.
-fn other_lists(search: Search) -> Search {
-    let a = step(b"short list", search, 3, 2, 4, &[0u8, 0, 0, 1, 1, 0, 2], 3);
-    let b = step(b"empty list", a, 3, 2, 4, b"", 3);
-    let c = step(b"row off", b, 3, 2, 4, &[0u8, 0, 0, 1, 3, 0, 3, 1], 3);
-    step(b"falling", c, 3, 2, 4, &[0u8, 0, 1, 1, 0, 1, 2, 1], 3)
-}
-
-// The rest of the search, and calls on the complete one.
-fn last_steps(search: Search) -> Search {
-    let a = go(b"budget 3 after refusals", search, 3);
-    let b = go(b"budget 1000000", a, 1_000_000);
-    let c = go(b"complete, budget 2", b, 2);
-    go(b"complete, budget over the limit", c, 1_000_001)
+    say(words);
+    step(search, 3, 2, 4, &list, budget);
 }
 
 // Searches that are no state, or whose tries are at their limit.
@@ -136,10 +129,8 @@ fn bytes_past(search: Search) {
     go(b"a mark past the length, cleared", s, 0);
 }
 
-// Every step in turn.
-pub(crate) fn all() {
-    let some = first_steps();
-    states(some);
-    bytes_past(some);
-    last_steps(other_lists(other_sizes(some)));
+// Steps on damaged copies of a search.
+pub(crate) fn damaged(search: Search) {
+    states(search);
+    bytes_past(search);
 }

@@ -1,24 +1,45 @@
-// What the program prints of answers and searches.
-use crate::given::Given;
+// What the program prints of cases, marks, answers and searches.
+use crate::current::Current;
+use crate::current::go_to;
 use model::Search;
-use model::ShowAnswer;
 use model::Verdict;
 use pattern::reading::byte_at;
 use testing::comparing::same_search;
 use testing::saying::say;
+use testing::saying::say_field;
 use testing::saying::say_number;
 use testing::saying::say_refused;
 use testing::saying::say_which;
 use trail::Trail;
 
-// A mark or a part, or 9 for a byte that a call has not written.
-fn say_mark(mark: u8) {
+// The words of a case, on a line of their own.
+pub(crate) fn text(cases: &[u8], current: Current) -> Current {
+    let next = say_field(cases, current.at);
+    say(b"\n");
+    go_to(current, next)
+}
+
+// Words, and the numbers of a pattern.
+pub(crate) fn say_sizes(words: &[u8], current: Current) {
+    say_number(words, current.m);
+    say_number(b" ", current.n);
+    say_number(b" ", current.nonzeros);
+    say_number(b" cap ", current.cap);
+}
+
+// One letter.
+fn say_letter(letter: u8) {
+    say(&[letter]);
+}
+
+// The letter of a mark or a part; 9 for a byte that a call has not written.
+fn letter_of(mark: u8) -> u8 {
     match mark {
-        0 => say(b"0"),
-        1 => say(b"1"),
-        2 => say(b"c"),
-        9 => say(b"9"),
-        _ => say(b"?"),
+        0 => b'0',
+        1 => b'1',
+        2 => b'c',
+        9 => b'9',
+        _ => b'?',
     }
 }
 
@@ -26,20 +47,22 @@ fn say_mark(mark: u8) {
 pub(crate) fn say_marks(bytes: &[u8], len: usize) {
     let mut i: usize = 0;
     while i < len {
-        say_mark(byte_at(bytes, i));
+        say_letter(letter_of(byte_at(bytes, i)));
         i += 1;
     }
 }
 
-// The marks of a marking, or a full stop where it has none.
-fn say_trail(trail: Trail) {
+// The marks of a marking, a full stop where it has none, or a dash where it is not there.
+fn say_marking(found: bool, trail: Trail) {
     let marks = trail.marks;
     let len = trail.len;
-    if len == 0 {
-        say(b".");
-    } else {
-        say_marks(&marks, len);
+    if !found {
+        return say_letter(b'-');
     }
+    if len == 0 {
+        return say_letter(b'.');
+    }
+    say_marks(&marks, len);
 }
 
 // What an opening answers.
@@ -50,79 +73,14 @@ pub(crate) fn say_verdict(verdict: Verdict) {
     }
 }
 
-// What an opening of a pattern answers, on a line of its own.
-pub(crate) fn say_opened(m: u64, n: u64, nonzeros: u64, cap: u64, list: &[u8]) {
-    let opened = search::open(m, n, nonzeros, list, cap);
-    say_number(b"open ", m);
-    say_number(b" ", n);
-    say_number(b" ", nonzeros);
-    say_number(b" cap ", cap);
-    let verdict = opened.verdict;
-    say_verdict(verdict);
-    say(b"\n");
-}
-
-// What a showing answers, with the first bytes of its parts where it gives a split.
-pub(crate) fn say_show(answer: ShowAnswer, parts: &[u8], len: usize) {
-    match answer {
-        ShowAnswer::Split { volume, floor } => {
-            say_number(b" floor ", floor);
-            say_number(b" volume ", volume);
-            say(b" split ");
-            say_marks(parts, len);
-        }
-        ShowAnswer::NoneYet { floor } => {
-            say_number(b" floor ", floor);
-            say(b" none yet");
-        }
-        ShowAnswer::Refused(word, place) => say_refused(word, place),
-    }
-}
-
-// What is shown of a search.
-fn say_shown(search: Search, given: Given) {
-    let list = given.list;
-    let mut parts = [9u8; 64];
-    let answer = search::show(search, given.m, given.n, given.nonzeros, &list, &mut parts);
-    say_show(answer, &parts, given.nonzeros as usize);
-}
-
-// The best marking, or a dash where there is none.
-fn say_best(found: bool, best: Trail) {
-    if found {
-        say_trail(best);
-    } else {
-        say(b"-");
-    }
-}
-
-// Whether a search is complete.
-fn say_end(complete: bool) {
-    if complete {
-        say(b" complete");
-    } else {
-        say(b" open");
-    }
-}
-
 // A search's record.
-pub(crate) fn say_numbers(search: Search) {
-    let best = search.best;
-    let trail = search.trail;
+pub(crate) fn say_record(search: Search) {
     say_number(b"  tries ", search.tries);
     say_number(b" best ", search.best_count);
     say(b" bestmarking ");
-    say_best(search.found, best);
-    say_end(search.complete);
-    say(b" trail ");
-    say_trail(trail);
-}
-
-// A search's record and what is shown of it, on a line of its own.
-pub(crate) fn say_search(search: Search, given: Given) {
-    say_numbers(search);
-    say_shown(search, given);
-    say(b"\n");
+    say_marking(search.found, search.best);
+    say_which(search.complete, b" complete trail ", b" open trail ");
+    say_marking(true, search.trail);
 }
 
 // Says whether a search is as it was.

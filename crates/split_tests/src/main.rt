@@ -1,29 +1,33 @@
-// Prints what the program answers to many inputs, byte by byte, and what it leaves in outputs that are too short.
+// Prints what the program answers to many inputs, byte by byte, and what it leaves in outputs that are too short. Its own input has the cases.
 mod asking;
-mod first_lines;
-mod limits;
 mod outputs;
-mod samples;
-mod several;
-mod texts_refused;
 
-// Every table in turn.
+use libc::STDIN_FILENO;
+use pattern::reading::byte_at;
+use testing::Kind;
+use testing::cases::field_at;
+
+// One case: prints its answer, and gives the place of the next one.
+fn case_at(cases: &[u8], at: usize) -> usize {
+    let kind = field_at(cases, at, Kind::Text, &mut []);
+    match byte_at(cases, at) {
+        b'a' => asking::answer_case(cases, kind.next),
+        b'f' => asking::filled_case(cases, kind.next),
+        b'w' => outputs::within_case(cases, kind.next),
+        _ => kind.next,
+    }
+}
+
+// Reads the cases and answers each of them in turn.
 fn main() {
-    samples::complete();
-    samples::stopped();
-    samples::none_yet();
-    samples::other_texts();
-    first_lines::ends();
-    first_lines::blanks();
-    first_lines::numbers();
-    first_lines::words();
-    first_lines::accepted();
-    limits::percentages();
-    limits::budgets();
-    limits::lengths();
-    texts_refused::first_and_size_lines();
-    texts_refused::entries();
-    several::wrong_at_once();
-    outputs::lines();
-    outputs::splits();
+    let mut cases = [0u8; 16384];
+    let len = io::read_full(STDIN_FILENO, &mut cases);
+    let mut at: usize = 0;
+    while at < len {
+        let next = case_at(&cases, at);
+        if next <= at {
+            return;
+        }
+        at = next;
+    }
 }

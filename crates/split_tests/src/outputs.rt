@@ -1,6 +1,10 @@
 // Outputs of several lengths: the answer's length is given, and what falls past the end is left out.
 use crate::asking::say_name;
 use answering::splitting::answer;
+use testing::Kind;
+use testing::cases::field_at;
+use testing::cases::number_at;
+use testing::laying::first;
 use testing::saying::say;
 use testing::saying::say_number;
 
@@ -22,40 +26,17 @@ fn answer_into(input: &[u8], page: &mut [u8], room: usize) -> usize {
 }
 
 // An answer into the first bytes of a page of 120 points.
-fn within(name: &[u8], input: &[u8], room: usize) {
+fn answer_within(input: &[u8], room: usize) {
     let mut page = [b'.'; 120];
     let len = answer_into(input, &mut page, room);
-    say_name(name);
     say_page(len, &page);
 }
 
-// The split of the 2 by 2 diagonal, which takes 110 bytes.
-fn diagonal_within(name: &[u8], room: usize) {
-    within(
-        name,
-        b"percent 0 budget 100\n%%MatrixMarket matrix coordinate pattern general\n2 2 2\n2 2\n1 1\n",
-        room,
-    );
-}
-
-// Refusals and "none yet".
-pub(crate) fn lines() {
-    within(b"refusal into 120 bytes", b"", 120);
-    within(b"refusal into 15 bytes", b"", 15);
-    within(b"refusal into 8 bytes", b"", 8);
-    within(b"refusal into an empty output", b"", 0);
-    within(
-        b"none yet into 10 bytes",
-        b"percent 0 budget 3\n%%MatrixMarket matrix coordinate pattern general\n2 2 2\n2 2\n1 1\n",
-        10,
-    );
-}
-
-// A text, which is written whole or refused with 9.
-pub(crate) fn splits() {
-    diagonal_within(b"split into 120 bytes", 120);
-    diagonal_within(b"split into 110 bytes", 110);
-    diagonal_within(b"split into 109 bytes", 109);
-    diagonal_within(b"split into 8 bytes", 8);
-    diagonal_within(b"split into an empty output", 0);
+// An input, and the room for its answer.
+pub(crate) fn within_case(cases: &[u8], at: usize) -> usize {
+    let mut page = [0u8; 256];
+    let room = number_at(cases, say_name(cases, at));
+    let input = field_at(cases, room.next, Kind::Text, &mut page);
+    answer_within(first(&page, input.value as usize), room.value as usize);
+    input.next
 }

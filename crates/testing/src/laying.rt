@@ -1,7 +1,19 @@
 // Texts and marks laid out in a page.
 use pattern::reading::put;
 ghost use mathlib.Core.Path.{_≡_};
+ghost use lib.ListN.{take};
 ghost use Rattle.testing.specs.Laid.{placeAfter, placePast, laid, markOf, marksLaid};
+
+// The first bytes of a page, or all of a shorter one.
+pub fn first(page: &[u8], len: usize) -> &[u8]
+    ensures { λ r. ⌜ now r ≡ take len (now (page .entry)) ⌝ }
+{
+    if len <= page.len() {
+        &page[0..len]
+    } else {
+        page
+    }
+}
 
 // The place after another, up to a million.
 fn place_after(at: usize) -> usize

@@ -1,4 +1,7 @@
 // Words, numbers, bytes, refusals and answers printed.
+use crate::Kind;
+use crate::cases::field_at;
+use crate::laying::first;
 use model::RunAnswer;
 use model::Word;
 use pattern::reading::long;
@@ -25,11 +28,12 @@ pub fn say_bytes(words: &[u8], bytes: &[u8]) {
     }
 }
 
-// The first bytes of a page as they are.
-pub fn say_start(page: &[u8], len: usize) {
-    if len <= page.len() {
-        say(&page[0..len]);
-    }
+// The text of a field, of which 128 bytes are printed at most, and the place of the next field.
+pub fn say_field(cases: &[u8], at: usize) -> usize {
+    let mut page = [0u8; 128];
+    let field = field_at(cases, at, Kind::Text, &mut page);
+    say(first(&page, field.value as usize));
+    field.next
 }
 
 // The first words where a test passes, and the others where it fails.

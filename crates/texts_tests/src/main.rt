@@ -1,34 +1,40 @@
-// Prints what reading and writing make of many texts, in the words of the list of expected answers.
-mod banners;
-mod entries;
-mod integers;
-mod limits;
+// Prints what reading and writing make of many texts, in the words of the list of expected answers. Its input has the cases.
+mod largest;
 mod reading;
 mod saying;
-mod sizes;
-mod writing_back;
 mod writings;
 
-// Every table in turn.
+use libc::STDIN_FILENO;
+use pattern::reading::byte_at;
+use testing::Kind;
+use testing::cases::field_at;
+
+// One case: prints its answer, and gives the place of the next one.
+fn case_at(cases: &[u8], at: usize) -> usize {
+    let kind = field_at(cases, at, Kind::Text, &mut []);
+    match byte_at(cases, at) {
+        b'r' => reading::read_case(cases, kind.next),
+        b'f' => reading::filled_case(cases, kind.next),
+        b'w' => writings::write_case(cases, kind.next),
+        b'b' => writings::back_case(cases, kind.next),
+        b'l' => {
+            largest::largest();
+            kind.next
+        },
+        _ => kind.next,
+    }
+}
+
+// Reads the cases and answers each of them in turn.
 fn main() {
-    banners::other_starts();
-    banners::other_words();
-    banners::read();
-    sizes::refused();
-    sizes::read();
-    sizes::ranges();
-    entries::read();
-    entries::forms();
-    entries::cells();
-    entries::counts();
-    integers::read();
-    integers::refused();
-    limits::slices();
-    limits::lengths();
-    writings::sizes();
-    writings::places();
-    writings::parts();
-    writings::outputs();
-    writing_back::texts();
-    writing_back::largest();
+    let mut cases = [0u8; 16384];
+    let len = io::read_full(STDIN_FILENO, &mut cases);
+    let mut at: usize = 0;
+    while at < len {
+        let next = case_at(&cases, at);
+        if next <= at {
+            return;
+        }
+        at = next;
+    }
 }

@@ -1,63 +1,62 @@
-// Texts laid out in a page and read.
+// Texts that are read.
 use crate::saying::say_left;
 use crate::saying::say_read;
-use testing::laying::lay;
+use testing::Kind;
+use testing::cases::field_at;
+use testing::cases::lay_ends;
+use testing::cases::number_at;
+use testing::laying::first;
 use testing::saying::say;
+use testing::saying::say_field;
 use texts::read::read;
 
-// A text read into these slices, and what it leaves in them.
-fn read_into(name: &[u8], text: &[u8], list: &mut [u8], parts: &mut [u8]) {
+// What a reading into these slices answers.
+pub(crate) fn say_reading(text: &[u8], list: &mut [u8], parts: &mut [u8]) {
     let answer = read(text, list, parts);
-    say(name);
     say_read(answer);
+}
+
+// A text read into these slices, and what it leaves in them.
+fn read_into(text: &[u8], list: &mut [u8], parts: &mut [u8]) {
+    say_reading(text, list, parts);
     say_left(b", list", list);
     say_left(b", parts", parts);
     say(b"\n");
 }
 
 // A text read into slices of these lengths, at most 8 bytes for the list and 4 for the parts.
-pub(crate) fn read_within(name: &[u8], text: &[u8], listed: usize, parted: usize) {
+pub(crate) fn read_within(text: &[u8], listed: usize, parted: usize) {
     let mut list = [9u8; 8];
     let mut parts = [9u8; 4];
     if listed <= 8 {
         if parted <= 4 {
-            read_into(name, text, &mut list[0..listed], &mut parts[0..parted]);
+            read_into(text, &mut list[0..listed], &mut parts[0..parted]);
         }
     }
 }
 
-// A text read into a list of 8 bytes and parts of 4.
-pub(crate) fn whole(name: &[u8], text: &[u8]) {
-    read_within(name, text, 8, 4);
-}
-
-// The first bytes of a page read as a text.
-pub(crate) fn start(name: &[u8], page: &[u8], len: usize) {
-    if len <= page.len() {
-        whole(name, &page[0..len]);
-    }
-}
-
-// A pattern text, by what follows its first line.
-pub(crate) fn pattern(name: &[u8], body: &[u8]) {
+// A text read into slices of given lengths.
+pub(crate) fn read_case(cases: &[u8], at: usize) -> usize {
     let mut page = [0u8; 256];
-    let next = lay(
-        &mut page,
-        0,
-        b"%%MatrixMarket matrix coordinate pattern general\n",
+    let listed = number_at(cases, say_field(cases, at));
+    let parted = number_at(cases, listed.next);
+    let text = field_at(cases, parted.next, Kind::Text, &mut page);
+    read_within(
+        first(&page, text.value as usize),
+        listed.value as usize,
+        parted.value as usize,
     );
-    let len = lay(&mut page, next, body);
-    start(name, &page, len);
+    text.next
 }
 
-// An integer text, by what follows its first line.
-pub(crate) fn integer(name: &[u8], body: &[u8]) {
-    let mut page = [0u8; 256];
-    let next = lay(
-        &mut page,
-        0,
-        b"%%MatrixMarket matrix coordinate integer general\n",
-    );
-    let len = lay(&mut page, next, body);
-    start(name, &page, len);
+// A long text, filled with one letter between its start and its end.
+pub(crate) fn filled_case(cases: &[u8], at: usize) -> usize {
+    let mut fill = [0u8; 1];
+    let letter = field_at(cases, say_field(cases, at), Kind::Text, &mut fill);
+    let length = number_at(cases, letter.next);
+    let len = length.value as usize;
+    let mut page = [fill[0]; 65537];
+    let next = lay_ends(cases, length.next, len, &mut page);
+    read_within(first(&page, len), 8, 4);
+    next
 }

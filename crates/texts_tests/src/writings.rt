@@ -1,13 +1,68 @@
-// Writings that are refused, and outputs of several lengths.
+// Splits that are written.
+use crate::reading::read_within;
 use crate::saying::is_kept;
 use crate::saying::say_written;
+use testing::Kind;
+use testing::cases::field_at;
+use testing::cases::number_at;
+use testing::laying::first;
 use testing::saying::say;
+use testing::saying::say_field;
 use testing::saying::say_which;
 use writing::Figures;
+use writing::WriteAnswer;
 use writing::write::write;
 
+// A split as a case gives it: the first bytes of list and parts are lent. The next field starts at `next`.
+struct Split {
+    m: u64,
+    n: u64,
+    nonzeros: u64,
+    list: [u8; 8],
+    listed: usize,
+    parts: [u8; 4],
+    parted: usize,
+    next: usize,
+}
+
+// The split of a case.
+fn split_at(cases: &[u8], at: usize) -> Split {
+    let mut list = [0u8; 8];
+    let mut parts = [0u8; 4];
+    let m = number_at(cases, at);
+    let n = number_at(cases, m.next);
+    let nonzeros = number_at(cases, n.next);
+    let listed = field_at(cases, nonzeros.next, Kind::Numbers, &mut list);
+    let parted = field_at(cases, listed.next, Kind::Numbers, &mut parts);
+    Split {
+        m: m.value,
+        n: n.value,
+        nonzeros: nonzeros.value,
+        list,
+        listed: listed.value as usize,
+        parts,
+        parted: parted.value as usize,
+        next: parted.next,
+    }
+}
+
+// A split written.
+fn write_split(split: Split, figures: Figures, out: &mut [u8]) -> WriteAnswer {
+    let list = split.list;
+    let parts = split.parts;
+    write(
+        split.m,
+        split.n,
+        split.nonzeros,
+        first(&list, split.listed),
+        first(&parts, split.parted),
+        figures,
+        out,
+    )
+}
+
 // The figures of document 01's sample.
-fn figures() -> Figures {
+pub(crate) fn sample_figures() -> Figures {
     Figures {
         volume: 0,
         cap: 1,
@@ -18,145 +73,60 @@ fn figures() -> Figures {
 }
 
 // A split written to the first bytes of a page.
-fn write_start(
-    name: &[u8],
-    m: u64,
-    n: u64,
-    nonzeros: u64,
-    list: &[u8],
-    parts: &[u8],
-    room: usize,
-    page: &mut [u8],
-) {
+fn write_start(split: Split, room: usize, page: &mut [u8]) {
     if room <= page.len() {
-        let answer = write(m, n, nonzeros, list, parts, figures(), &mut page[0..room]);
-        say(name);
+        let answer = write_split(split, sample_figures(), &mut page[0..room]);
         say_written(answer);
     }
 }
 
-// A split written to an output of this length, at most 200 bytes, and which of its bytes stay.
-fn write_within(
-    name: &[u8],
-    m: u64,
-    n: u64,
-    nonzeros: u64,
-    list: &[u8],
-    parts: &[u8],
-    room: usize,
-) {
+// A split written to an output of a given length, at most 200 bytes, and which of its bytes stay.
+pub(crate) fn write_case(cases: &[u8], at: usize) -> usize {
+    let split = split_at(cases, say_field(cases, at));
+    let room = number_at(cases, split.next);
     let mut out = [9u8; 200];
-    write_start(name, m, n, nonzeros, list, parts, room, &mut out);
+    write_start(split, room.value as usize, &mut out);
     let kept = is_kept(&out);
     let kept_past = is_kept(&out[110..200]);
     say_which(kept, b", output kept", b", output written");
     say_which(kept_past, b", kept from 110 on", b", changed from 110 on");
     say(b"\n");
+    room.next
 }
 
-// A split written to an output that is long enough.
-fn split(name: &[u8], m: u64, n: u64, nonzeros: u64, list: &[u8], parts: &[u8]) {
-    write_within(name, m, n, nonzeros, list, parts, 200);
+// The number of bytes written.
+pub(crate) fn len_of(answer: WriteAnswer) -> usize {
+    match answer {
+        WriteAnswer::Written(len) => len as usize,
+        WriteAnswer::Refused(_, _) => 0,
+    }
 }
 
-// Sizes outside their ranges, and short slices.
-pub(crate) fn sizes() {
-    split(b"write no row", 0, 2, 0, b"", b"");
-    split(b"write 121 rows", 121, 2, 0, b"", b"");
-    split(b"write no column", 2, 0, 0, b"", b"");
-    split(b"write 121 columns", 2, 121, 0, b"", b"");
-    split(b"write 2001 nonzeros", 120, 120, 2001, b"", b"");
-    split(b"write more nonzeros than cells", 2, 2, 5, b"", b"");
-    split(
-        b"write list one byte short",
-        2,
-        2,
-        2,
-        b"\x00\x00\x01",
-        b"\x00\x01",
-    );
-    split(
-        b"write parts one byte short",
-        2,
-        2,
-        2,
-        b"\x00\x00\x01\x01",
-        b"\x00",
-    );
-    split(b"short before off", 2, 2, 2, b"\x02\x02\x01\x01", b"\x02");
+// The text of a split with these figures, and the split that is read from it.
+fn write_back(split: Split, figures: Figures) {
+    let mut out = [9u8; 256];
+    let answer = write_split(split, figures, &mut out);
+    let text = first(&out, len_of(answer));
+    say(text);
+    say(b"read back");
+    read_within(text, 8, 4);
 }
 
-// Nonzeros off the matrix, and not rising.
-pub(crate) fn places() {
-    split(b"write row over", 2, 3, 2, b"\x02\x00\x02\x01", b"\x00\x01");
-    split(
-        b"write column over",
-        3,
-        2,
-        2,
-        b"\x00\x00\x01\x02",
-        b"\x00\x01",
-    );
-    split(b"write twice", 2, 2, 2, b"\x00\x01\x00\x01", b"\x00\x01");
-    split(
-        b"write row falling",
-        2,
-        2,
-        2,
-        b"\x01\x00\x00\x01",
-        b"\x00\x01",
-    );
-    split(
-        b"write column falling",
-        2,
-        2,
-        2,
-        b"\x00\x01\x00\x00",
-        b"\x00\x01",
-    );
-}
-
-// Part bytes above 1, and the order of a nonzero's checks.
-pub(crate) fn parts() {
-    split(b"write part 2", 2, 2, 2, b"\x00\x00\x01\x01", b"\x02\x00");
-    split(b"write part 255", 2, 2, 2, b"\x00\x00\x01\x01", b"\x00\xff");
-    split(
-        b"off before the rest",
-        2,
-        2,
-        2,
-        b"\x01\x01\x00\x02",
-        b"\x00\x02",
-    );
-    split(
-        b"order before part",
-        2,
-        2,
-        2,
-        b"\x01\x01\x00\x00",
-        b"\x00\x02",
-    );
-    split(
-        b"nonzero by nonzero",
-        2,
-        2,
-        2,
-        b"\x01\x01\x00\x02",
-        b"\x02\x00",
-    );
-}
-
-// The 2 by 2 diagonal with these parts, written to an output of this length: the text takes 110 bytes.
-fn diagonal(name: &[u8], parts: &[u8], room: usize) {
-    write_within(name, 2, 2, 2, b"\x00\x00\x01\x01", parts, room);
-}
-
-// Outputs of several lengths.
-pub(crate) fn outputs() {
-    diagonal(b"empty output", b"\x00\x01", 0);
-    diagonal(b"output one byte short", b"\x00\x01", 109);
-    diagonal(b"output just long enough", b"\x00\x01", 110);
-    diagonal(b"output longer", b"\x00\x01", 200);
-    diagonal(b"part before output", b"\x00\x02", 0);
-    split(b"lists longer", 2, 2, 1, b"\x01\x00\x09\x09", b"\x01\x09");
+// A split and its figures, written and read back.
+pub(crate) fn back_case(cases: &[u8], at: usize) -> usize {
+    let split = split_at(cases, at);
+    let volume = number_at(cases, split.next);
+    let cap = number_at(cases, volume.next);
+    let tries = number_at(cases, cap.next);
+    let floor = number_at(cases, tries.next);
+    let complete = number_at(cases, floor.next);
+    let figures = Figures {
+        volume: volume.value,
+        cap: cap.value,
+        tries: tries.value,
+        floor: floor.value,
+        complete: complete.value,
+    };
+    write_back(split, figures);
+    complete.next
 }

@@ -17,8 +17,11 @@ loop-holds c = search needs
 byte-at-requires : tie.Need-byte-at-requires Inv-loop μ-loop
 byte-at-requires c κs = search needs
 
-say-mark-requires : tie.Need-say-mark-requires Inv-loop μ-loop
-say-mark-requires c κs = search needs
+letter-of-requires : tie.Need-letter-of-requires Inv-loop μ-loop
+letter-of-requires c κs = search needs
+
+say-letter-requires : tie.Need-say-letter-requires Inv-loop μ-loop
+say-letter-requires c κs = search needs
 
 add-i : tie.Need-add-i Inv-loop μ-loop
 add-i c = search needs
@@ -40,7 +43,8 @@ say-marks-spec =
     μ-loop
     loop-holds
     byte-at-requires
-    say-mark-requires
+    letter-of-requires
+    say-letter-requires
     add-i
     loop-less
     loop-again

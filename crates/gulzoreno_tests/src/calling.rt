@@ -1,0 +1,31 @@
+// A call that a case gives: name, sizes, list, cap, budget, and how many bytes are lent for parts and for figures.
+use crate::lending::lend;
+use testing::Kind;
+use testing::cases::field_at;
+use testing::cases::number_at;
+use testing::laying::first;
+use testing::saying::say_field;
+
+// Makes the call of a case, and gives the place of the next case.
+pub(crate) fn call(cases: &[u8], at: usize) -> usize {
+    let mut list = [0u8; 64];
+    let m = number_at(cases, say_field(cases, at));
+    let n = number_at(cases, m.next);
+    let nonzeros = number_at(cases, n.next);
+    let listed = field_at(cases, nonzeros.next, Kind::Numbers, &mut list);
+    let cap = number_at(cases, listed.next);
+    let budget = number_at(cases, cap.next);
+    let parts = number_at(cases, budget.next);
+    let figures = number_at(cases, parts.next);
+    lend(
+        m.value,
+        n.value,
+        nonzeros.value,
+        first(&list, listed.value as usize),
+        cap.value,
+        budget.value,
+        parts.value as usize,
+        figures.value as usize,
+    );
+    figures.next
+}

@@ -1,0 +1,121 @@
+// The search that the cases go on with.
+use model::Ran;
+use model::Search;
+use model::Verdict;
+use pattern::reading::byte_at;
+use testing::Kind;
+use testing::cases::field_at;
+use testing::cases::number_at;
+use testing::laying::first;
+
+// A pattern, a cap and where its cells stand among the cases; what its opening answered, and its search; and the place of the next field.
+pub struct Current {
+    pub m: u64,
+    pub n: u64,
+    pub nonzeros: u64,
+    pub cap: u64,
+    pub cells: usize,
+    pub list: [u8; 4000],
+    pub len: usize,
+    pub verdict: Verdict,
+    pub search: Search,
+    pub at: usize,
+}
+
+// The cells of 2,000 nonzeros, row by row in rows of 120.
+fn long_list() -> [u8; 4000] {
+    let mut list = [0u8; 4000];
+    let mut t: usize = 0;
+    while t < 2000 {
+        list[2 * t] = (t / 120) as u8;
+        list[2 * t + 1] = (t % 120) as u8;
+        t += 1;
+    }
+    list
+}
+
+// The list of some cells, of which the words `row by row` stand for 2,000.
+fn list_at(cases: &[u8], at: usize) -> [u8; 4000] {
+    if byte_at(cases, at) == b'r' {
+        return long_list();
+    }
+    let mut list = [0u8; 4000];
+    field_at(cases, at, Kind::Numbers, &mut list);
+    list
+}
+
+// How many bytes the list of some cells has.
+fn len_at(cases: &[u8], at: usize, count: u64) -> usize {
+    if byte_at(cases, at) == b'r' {
+        4000
+    } else {
+        count as usize
+    }
+}
+
+// A fresh search: rows, columns, nonzeros, cap and cells.
+pub(crate) fn fresh_at(cases: &[u8], at: usize) -> Current {
+    let m = number_at(cases, at);
+    let n = number_at(cases, m.next);
+    let nonzeros = number_at(cases, n.next);
+    let cap = number_at(cases, nonzeros.next);
+    let cells = field_at(cases, cap.next, Kind::Numbers, &mut []);
+    let list = list_at(cases, cap.next);
+    let len = len_at(cases, cap.next, cells.value);
+    let opened = search::open(
+        m.value,
+        n.value,
+        nonzeros.value,
+        first(&list, len),
+        cap.value,
+    );
+    let verdict = opened.verdict;
+    let search = opened.search;
+    Current {
+        m: m.value,
+        n: n.value,
+        nonzeros: nonzeros.value,
+        cap: cap.value,
+        cells: cap.next,
+        list,
+        len,
+        verdict,
+        search,
+        at: cells.next,
+    }
+}
+
+// What a run answers.
+pub(crate) fn ran(current: Current, budget: u64) -> Ran {
+    let list = current.list;
+    let search = current.search;
+    search::run(
+        search,
+        current.m,
+        current.n,
+        current.nonzeros,
+        first(&list, current.len),
+        budget,
+    )
+}
+
+// The search after so many tries.
+pub(crate) fn after_run(mut current: Current, budget: u64) -> Current {
+    let ran = ran(current, budget);
+    let search = ran.search;
+    current.search = search;
+    current
+}
+
+// The search after so many tries, which a field gives.
+pub(crate) fn after(cases: &[u8], mut current: Current) -> Current {
+    let tries = number_at(cases, current.at);
+    current.at = tries.next;
+    after_run(current, tries.value)
+}
+
+// The cases go on with this search at another place.
+pub(crate) fn go_to(mut current: Current, next: usize) -> Current {
+    current.at = next;
+    current
+}
