@@ -78,14 +78,14 @@ fieldFrom kind cases page len at (suc k) =
 unfoldable pub fieldAt : Kind → List ℕ → ℕ → List ℕ → Field × List ℕ
 fieldAt kind cases at page = fieldFrom kind cases page 0 at (length cases)
 
--- 64 bytes, all 0
-abbrev pub zeros : List ℕ
-zeros = replicate 64 0
+-- an empty page: 128 bytes, all 0
+abbrev pub emptyPage : List ℕ
+emptyPage = replicate 128 0
 
 -- a text's start laid out at a page's start and its end before a place, and the place of the next field
 unfoldable pub endsLaid : List ℕ → ℕ → ℕ → List ℕ → ℕ × List ℕ
 endsLaid cases at stop page =
     let start = fieldAt Text cases at page in
-    let end = fieldAt Text cases (start .0 .next) zeros in
+    let end = fieldAt Text cases (start .0 .next) emptyPage in
     let len = end .0 .value in
     (end .0 .next, laid (start .1) (stop - len) (take len (end .1)))

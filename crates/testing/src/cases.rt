@@ -157,12 +157,12 @@ pub fn field_at(cases: &[u8], at: usize, kind: Kind, page: &mut [u8]) -> Field
     field_of(cases, len as u64, next)
 }
 
-// A text's start laid out at a page's start, and its end, of at most 64 bytes, before a place: two fields. Gives the place of the next one.
+// A text's start laid out at a page's start, and its end, of at most 128 bytes, before a place: two fields. Gives the place of the next one.
 pub fn lay_ends(cases: &[u8], at: usize, stop: usize, page: &mut [u8]) -> usize
     ensures { λ r. ⌜ (r ≡ endsLaid (now (cases .entry)) at stop (now (page .entry)) .0)
         × (now (page .exit) ≡ endsLaid (now (cases .entry)) at stop (now (page .entry)) .1) ⌝ }
 {
-    let mut last = [0u8; 64];
+    let mut last = [0u8; 128];
     let start = field_at(cases, at, Kind::Text, page);
     let end = field_at(cases, start.next, Kind::Text, &mut last);
     let len = end.value as usize;

@@ -6,6 +6,9 @@ use model::RunAnswer;
 use model::Word;
 use pattern::reading::long;
 use pattern::refusals::refusal_number;
+ghost use mathlib.Core.Path.{_≡_};
+ghost use Rattle.testing.specs.declared.Kind.the-variants.{Text};
+ghost use Rattle.testing.specs.Cases.{fieldAt, emptyPage};
 
 // Words as they are.
 pub fn say(words: &[u8]) {
@@ -29,7 +32,9 @@ pub fn say_bytes(words: &[u8], bytes: &[u8]) {
 }
 
 // The text of a field, of which 128 bytes are printed at most, and the place of the next field.
-pub fn say_field(cases: &[u8], at: usize) -> usize {
+pub fn say_field(cases: &[u8], at: usize) -> usize
+    ensures { λ r. ⌜ r ≡ fieldAt Text (now (cases .entry)) at emptyPage .0 .next ⌝ }
+{
     let mut page = [0u8; 128];
     let field = field_at(cases, at, Kind::Text, &mut page);
     say(first(&page, field.value as usize));
