@@ -1,8 +1,9 @@
 // Checks both walks and the texts against each other, against vectors from
-// another model, against the samples of document 01 and against brute force.
+// another model, against the samples of document 01 and against brute force,
+// and symmetric and valued texts against plain ones.
 // Usage: selftest DATA-DIRECTORY. The last line is "N checked, 0 differ".
 #include "baseline/text.hpp"
-#include "random.hpp"
+#include "random_texts.hpp"
 
 #include <fstream>
 #include <iostream>
@@ -524,8 +525,16 @@ void check_matrices(const std::string& data) {
 
 // ---- texts
 
-const std::string pattern_banner = "%%MatrixMarket matrix coordinate pattern general\n";
-const std::string integer_banner = "%%MatrixMarket matrix coordinate integer general\n";
+std::string banner_of(const std::string& field, const std::string& shape) {
+    return "%%MatrixMarket matrix coordinate " + field + " " + shape + "\n";
+}
+
+const std::string pattern_banner = banner_of("pattern", "general");
+const std::string integer_banner = banner_of("integer", "general");
+const std::string real_banner = banner_of("real", "general");
+const std::string symmetric_banner = banner_of("pattern", "symmetric");
+const std::string symmetric_integer_banner = banner_of("integer", "symmetric");
+const std::string symmetric_real_banner = banner_of("real", "symmetric");
 
 std::string split_with_both(const std::string& input) {
     std::string a = split(plain(), input), b = split(incremental(), input);
@@ -558,8 +567,6 @@ void check_banners() {
     check_text("%%MatrixMarket matrix coordinate pattern general\r\n" + rest, 0, 0);
     check_text("%%MatrixMarket matrix coordinate pattern general\r\r\n" + rest, banner, 0);
     check_text("%%MatrixMarket matrix coordinate pattern general\r", banner, 0);
-    check_text("%%MatrixMarket matrix coordinate pattern symmetric\n" + rest, banner, 0);
-    check_text("%%MatrixMarket matrix coordinate real general\n" + rest, banner, 0);
     check_text("%%MatrixMarket matrix array pattern general\n" + rest, banner, 0);
     check_text("%%MatrixMarket matrix coordinate pattern general more\n" + rest, banner, 0);
     check_text("%%MatrixMarket matrix coordinate pattern generals\n" + rest, banner, 0);
@@ -569,15 +576,19 @@ void check_banners() {
     check_text("%%MatrixMarket\nmatrix coordinate pattern general\n" + rest, banner, 0);
 }
 
-// `after_banner` follows the pattern banner; a place counts from behind it,
-// except that `at_end` stands for the text's length.
+// `body` follows the banner; a place counts from behind it, except that
+// `at_end` stands for the text's length.
 constexpr uint64_t at_end = UINT64_MAX;
 
-void check_body(const std::string& after_banner, uint64_t number, uint64_t place) {
-    std::string text = pattern_banner + after_banner;
-    bool elsewhere = number == 0 || number == short_buffer;
-    check_text(text, number, elsewhere ? 0 : place == at_end ? text.size()
-                                                             : pattern_banner.size() + place);
+void check_body(const std::string& banner, const std::string& body, uint64_t number,
+                uint64_t place) {
+    std::string text = banner + body;
+    check_text(text, number, number == 0 ? 0 : place == at_end ? text.size()
+                                                               : banner.size() + place);
+}
+
+void check_body(const std::string& body, uint64_t number, uint64_t place) {
+    check_body(pattern_banner, body, number, place);
 }
 
 void check_size_lines() {
@@ -668,6 +679,243 @@ void check_text_lengths() {
     check(list == Bytes{0, 1, 1, 1} && parts == Bytes{77, 77}, "stay");
 }
 
+// ---- symmetric and valued texts
+
+void check_forms() {
+    for (const char* field : {"pattern", "Integer", "REAL"})
+        for (const char* shape : {"general", "Symmetric", "SYMMETRIC \t", "symmetric\r"})
+            check_body(banner_of(field, shape), "1 1 0\n", 0, 0);
+    for (const char* field : {"complex", "reals", "rea", "pattern real", "", "r-eal", "double"})
+        for (const char* shape : {"general", "symmetric"})
+            check_text(banner_of(field, shape) + "1 1 0\n", banner, 0);
+    for (const char* shape : {"skew-symmetric", "hermitian", "symetric", "symmetrical", "",
+                              "symmetric general", "general symmetric", "symmetric\r\r", "-"})
+        for (const char* field : {"pattern", "integer", "real"})
+            check_text(banner_of(field, shape) + "1 1 0\n", banner, 0);
+    check_text("%%MatrixMarket matrix array real general\n1 1\n0.5\n", banner, 0);
+    check_text("%%MatrixMarket matrix coordinate realgeneral\n1 1 0\n", banner, 0);
+    check_text("%%MatrixMarket matrix coordinate real general", size_line, 45);
+}
+
+void check_real_values() {
+    const std::string many(30, '7');
+    const std::vector<std::string> real = {
+        "7", "7.", ".5", "0.25", "+7", "-7.", "+.5", "-0", "0", "0.0e0", "1e5", "1E5", "5.e3",
+        ".5E+3", "-1.25e-10", "1e0000000000", many, "-." + many, many + "." + many + "E-" + many};
+    const std::vector<std::string> almost = {
+        "", ".", "+", "-", "+.", "e5", ".e3", "-.e3", "1e", "1E", "1e+", "1.5e-", "1e.5", "1e5.",
+        "1e5e5", "1e+-3", "1e 5", "1e5 .", "1.2.3", "..5", "1..", "--1", "+-1", "1-", "1+2",
+        "- 1", "1 2", "0x1", "1x", "nan", "inf", "1d5", "1,5", "1_0", "1%", "1\r\r", "1\v", "%"};
+    for (const std::string& banner : {real_banner, symmetric_real_banner}) {
+        for (const std::string& value : real)
+            for (const char* end : {"", "\n", " \t\n", "\r\n", "\n\n"})
+                check_body(banner, "2 2 1\n2\t1 \t" + value + end, 0, 0);
+        for (const std::string& value : almost) {
+            check_body(banner, "2 2 1\n2 1 " + value + "\n", entry_form, 6);
+            check_body(banner, "2 2 2\n1 1 1\n2 1 " + value + "\n", entry_form, 12);
+        }
+    }
+}
+
+void check_real_entries() {
+    check_body(real_banner, "2 2 1\n1 1-5\n", entry_form, 6);
+    check_body(real_banner, "2 2 1\n1 1.5\n", entry_form, 6);
+    check_body(real_banner, "2 2 1\n1. 1 5\n", entry_form, 6);
+    check_body(real_banner, "2 2 1\n1 1 5\r", entry_form, 6);
+    check_body(real_banner, "2 2 1\n3 1 1e\n", entry_form, 6);
+    check_body(real_banner, "2 2 1\n3 1 1e1\n", off_matrix, 6);
+    check_body(real_banner, "2 2 2\n1 1 1.5\n1 1 -2\n", repeated, 14);
+    check_body(real_banner, "2 2 2\n1 1 1.5\n1 2 0\n", 0, 0);
+    check_body(real_banner, "2 2 1\n1 1 1\n1 2 1\n", count, 12);
+    check_body(real_banner, "2 2 2\n1 1 1\n", count, at_end);
+    check_body(real_banner, "2 2 5\n", too_big, 0);
+    check_body(pattern_banner, "2 2 1\n1 1 1.5\n", entry_form, 6);
+    check_body(integer_banner, "2 2 1\n1 1 1.\n", entry_form, 6);
+    check_body(integer_banner, "2 2 1\n1 1 +1\n", entry_form, 6);
+    check_body(integer_banner, "2 2 1\n1 1 -7\n", entry_form, 6);
+}
+
+void check_symmetric_sizes() {
+    auto expect = [](const std::string& body, uint64_t number, uint64_t place) {
+        check_body(symmetric_banner, body, number, place);
+    };
+    expect("", size_line, at_end);
+    expect("2 3\n", size_line, 0);
+    expect("2 2 1000000000\n", size_line, 0);
+    expect("121 121 0\n", too_big, 0);
+    expect("121 3 0\n", too_big, 0);
+    expect("3 121 999999999\n", too_big, 0);
+    expect("0 1 0\n", too_big, 0);
+    expect("1 0 0\n", too_big, 0);
+    expect("2 3 0\n", not_square, 0);
+    expect("120 119 999999999\n", not_square, 0);
+    expect("%c\n\n 2 1 1\nx\n", not_square, 4);
+    expect("2 1 1\n", not_square, 0);
+    expect("120 120 0\n", 0, 0);
+    expect("2 2 5\n", count, at_end);
+    expect("2 2 5\n1 1\n2 1\n2 2\n", count, at_end);
+    expect("120 120 2001\n1 1\n", count, at_end);
+    expect("2 2 999999999\n1 1\n", count, at_end);
+    expect("2 2 999999999\n1 1\n1 1\n", repeated, 18);
+    expect("2 2 999999999\n1 1\n1 3\n", off_matrix, 18);
+    check_text(symmetric_banner + "2 3 0" + std::string(longest_text, '\n'), too_big, 0);
+    check_text(banner_of("pattern", "symetric") + "2 3 0\n", banner, 0);
+}
+
+void check_symmetric_entries() {
+    auto expect = [](const std::string& body, uint64_t number, uint64_t place) {
+        check_body(symmetric_banner, body, number, place);
+    };
+    expect("2 2 1\n1 2\n", above_diagonal, 6);
+    expect("2 2 1\n\n 1 2\n", above_diagonal, 7);
+    expect("2 2 1\n1 2 1\n", entry_form, 6);
+    expect("2 2 1\n1 3\n", off_matrix, 6);
+    expect("2 2 1\n0 1\n", off_matrix, 6);
+    expect("2 2 1\n3 1\n", off_matrix, 6);
+    expect("2 2 2\n2 1\n2 1\n", repeated, 10);
+    expect("2 2 2\n2 1\n1 2\n", above_diagonal, 10);
+    expect("2 2 2\n1 2\n3 3\n", above_diagonal, 6);
+    expect("2 2 1\n2 1\n1 2\n", count, 10);
+    expect("2 2 1\n2 1\nx\n", count, 10);
+    expect("2 2 2\n2 1\n", count, at_end);
+    expect("2 2 0\n1 2\n", count, 6);
+    expect("2 2 3\n2 1\n2 2\n1 1\n", 0, 0);
+    const std::string& integer = symmetric_integer_banner;
+    check_body(integer, "2 2 1\n1 2\n", entry_form, 6);
+    check_body(integer, "2 2 1\n1 3 3\n", off_matrix, 6);
+    check_body(integer, "2 2 1\n1 2 3\n", above_diagonal, 6);
+    check_body(integer, "2 2 1\n2 1 3\n", part, 6);
+    check_body(integer, "2 2 1\n2 2 0\n", part, 6);
+    check_body(integer, "2 2 2\n2 1 1\n2 1 3\n", part, 12);
+    check_body(integer, "2 2 2\n2 1 1\n2 1 2\n", repeated, 12);
+    check_body(integer, "2 2 2\n2 1 1\n1 2 1\n", above_diagonal, 12);
+    check_body(symmetric_real_banner, "2 2 1\n1 2 1e\n", entry_form, 6);
+    check_body(symmetric_real_banner, "2 2 1\n1 2 1e5\n", above_diagonal, 6);
+    check_body(symmetric_real_banner, "2 2 1\n2 1\n", entry_form, 6);
+}
+
+// The lines of `on` entries on the diagonal and `below` entries below it.
+std::string triangle(uint64_t on, uint64_t below, const std::string& value) {
+    std::string lines;
+    for (uint64_t row = 1; row <= on; ++row)
+        lines += std::to_string(row) + " " + std::to_string(row) + value + "\n";
+    for (uint64_t row = 2; below > 0; ++row)
+        for (uint64_t column = 1; column < row && below > 0; ++column, --below)
+            lines += std::to_string(row) + " " + std::to_string(column) + value + "\n";
+    return lines;
+}
+
+void check_opened_limit() {
+    auto expect = [](uint64_t on, uint64_t below, uint64_t number) {
+        std::string size = "%c\n\n120 120 " + std::to_string(on + below) + "\n";
+        check_body(symmetric_banner, size + triangle(on, below, ""), number, 4);
+        check_body(symmetric_integer_banner, size + triangle(on, below, " 2"), number, 4);
+        check_body(symmetric_real_banner, size + triangle(on, below, " -.5E1"), number, 4);
+    };
+    expect(0, 1000, 0);
+    expect(1, 999, 0);
+    expect(2, 999, 0);
+    expect(120, 940, 0);
+    expect(1, 1000, too_big);
+    expect(0, 1001, too_big);
+    expect(120, 941, too_big);
+    expect(0, 2000, too_big);
+    const std::string over = triangle(0, 1001, "");
+    check_body(symmetric_banner, "46 46 1001\n" + over, too_big, 0);
+    check_body(symmetric_banner, "46 46 1002\n" + over, count, at_end);
+    check_body(symmetric_banner, "46 46 1001\n" + over + "x\n", count, 11 + over.size());
+    check_body(symmetric_banner, "46 46 1002\n" + over + "1 2\n", above_diagonal,
+               11 + over.size());
+    check_body(symmetric_banner, "120 120 7260\n" + triangle(120, 7140, ""), too_big, 0);
+}
+
+// A text read into slices that were filled before.
+struct ReadText {
+    std::vector<uint8_t> list, parts;
+    TextContent content;
+    Answer answer;
+    ReadText(const std::string& text, size_t list_length, size_t parts_length)
+        : list(list_length, 77), parts(parts_length, 77),
+          answer(read_text(text, list.data(), list_length, parts.data(), parts_length, content)) {}
+    explicit ReadText(const std::string& text) : ReadText(text, 4000, 2000) {}
+};
+
+bool same_reading(const ReadText& a, const ReadText& b) {
+    return a.answer.number == b.answer.number && a.list == b.list && a.parts == b.parts &&
+           a.content.rows == b.content.rows && a.content.columns == b.content.columns &&
+           a.content.nonzeros == b.content.nonzeros;
+}
+
+void check_opened_room() {
+    const std::string three = "3 3 3\n3 1 2\n2 2 1\n3 2 2\n";   // opened: 5 nonzeros
+    auto number = [](const std::string& text, size_t list_length, size_t parts_length) {
+        ReadText read(text, list_length, parts_length);
+        check(!read.answer.refused() || (read.list == std::vector<uint8_t>(list_length, 77) &&
+                                         read.parts == std::vector<uint8_t>(parts_length, 77)),
+              "slices stay");
+        check(read.answer.number != short_buffer || read.answer.place == 0, "9 has place 0");
+        return read.answer.number;
+    };
+    check(number(symmetric_integer_banner + three, 9, 5) == short_buffer, "list too short");
+    check(number(symmetric_integer_banner + three, 10, 4) == short_buffer, "parts too short");
+    check(number(symmetric_real_banner + three, 9, 0) == short_buffer, "real: list too short");
+    check(number(symmetric_real_banner + three, 10, 0) == 0, "real without parts");
+    check(number(symmetric_real_banner + "2 3 0\n", 0, 0) == not_square, "15 before 9");
+    check(number(symmetric_banner + "2 2 1\n1 2\n", 0, 0) == above_diagonal, "16 before 9");
+    check(number(symmetric_banner + "2 2 2\n1 1\n", 0, 0) == count, "7 before 9");
+    check(number(symmetric_banner + "46 46 1001\n" + triangle(0, 1001, ""), 0, 0) == too_big,
+          "4 for the opened N before 9");
+    check(number(symmetric_banner + "1 1 0\n", 0, 0) == 0, "nothing to hold");
+    check(number(real_banner + three, 5, 0) == short_buffer, "general: list too short");
+    check(number(real_banner + "2 2 1\n1 1 x\n", 0, 0) == short_buffer, "general: 9 before 3");
+    ReadText read(symmetric_integer_banner + three, 11, 6);
+    using Bytes = std::vector<uint8_t>;
+    check(!read.answer.refused() && read.content.nonzeros == 5, "opened out");
+    check(read.list == Bytes{0, 2, 1, 1, 1, 2, 2, 0, 2, 1, 77}, "opened: list");
+    check(read.parts == Bytes{1, 0, 1, 1, 1, 77}, "opened: parts");
+}
+
+Draft opened_out(Draft draft) {
+    draft.shape = "general";
+    for (size_t at = 0; at < draft.counted; ++at) {
+        DraftEntry entry = draft.entries[at];
+        std::swap(entry.row, entry.column);
+        if (entry.row != entry.column) draft.entries.push_back(entry);
+    }
+    draft.counted = draft.entries.size();
+    return draft;
+}
+
+Draft without_values(Draft draft) {
+    draft.field = "pattern";
+    for (DraftEntry& entry : draft.entries) entry.value.clear();
+    return draft;
+}
+
+// A symmetric text reads as its opened form, a real one as without its values.
+void check_random_forms(int texts) {
+    Random random(6);
+    Layout bare{random, 0};
+    for (int at = 0; at < texts; ++at) {
+        Layout layout{random, random.below(10)};
+        bool symmetric = at % 4 != 0;
+        Draft draft = random_draft(random, at % 50 < 2 ? 120 : at % 5 == 0 ? 30 : 8, symmetric);
+        Draft opened = symmetric ? opened_out(draft) : draft;
+        std::string text = laid_out(layout, draft), general = laid_out(bare, opened);
+        ReadText read(text);
+        bool over = opened.counted > most_nonzeros;
+        check(over ? read.answer.number == too_big : !read.answer.refused(), "a random text");
+        check(over || read.content.nonzeros == opened.counted, "N of a random text");
+        check(same_reading(read, ReadText(general)), "read as the opened text");
+        if (draft.field == "real")
+            check(same_reading(read, ReadText(laid_out(bare, without_values(draft)))),
+                  "read as the text without values");
+        const std::string request = "percent 10 budget 100\n";
+        if (at % 10 == 1 && !over)
+            check_split(request + text, split_with_both(request + general));
+    }
+}
+
 void check_writer() {
     std::vector<uint8_t> parts = {0, 1}, out(200, 77);
     CommentFigures figures{0, 1, 11, 0, 1};
@@ -746,11 +994,38 @@ void check_splits(const std::string& data) {
     check_split("percent 0 budget 1\n" + std::string(longest_text + 1, ' '), "refused 4 at 0\n");
     check_split("percent 0 budget 5\n" + pattern_banner + "2 3 0\n",
                 integer_banner + "% volume 0 cap 0 tries 0 floor 0 complete\n2 3 0\n");
+    const std::string start = "percent 0 budget 100\n";
+    check_split(start + symmetric_real_banner + "2 2 2\n2 2 0\n1 1 -1e3\n", solved);
+    check_split(start + symmetric_integer_banner + "2 2 2\n2 2 1\n1 1 1\n", solved);
+    check_split(start + real_banner + "2 2 2\n2 2 .5\n1 1 7.\n", solved);
+    check_split(start + symmetric_banner + "2 3 0\n", "refused 15 at 51\n");
+    check_split(start + symmetric_banner + "2 2 1\n1 2\n", "refused 16 at 57\n");
+    check_split("percent 101 budget 0\n" + symmetric_banner + "2 2 1\n2 1\n", "refused 11 at 0\n");
+    check_split("percent 0 budget 0\n" + symmetric_banner + "2 2 2\n2 1\n1 1\n",
+                "refused 12 at 0\n");
     const std::string all = "percent 3 budget 1000000\n";
     std::string karate = split_with_both(all + file_bytes(data + "/karate.mtx"));
     check(karate.find("% volume 8 cap 80 tries 24934 floor 8 complete\n34 34 156\n") ==
               integer_banner.size(), "split of karate");
     check(split_with_both(all + karate) == karate, "parts are unused");
+}
+
+void check_texts(const std::string& data) {
+    check_banners();
+    check_size_lines();
+    check_entries();
+    check_text_lengths();
+    check_forms();
+    check_real_values();
+    check_real_entries();
+    check_symmetric_sizes();
+    check_symmetric_entries();
+    check_opened_limit();
+    check_opened_room();
+    check_random_forms(8000);
+    check_writer();
+    check_round_trips(500);
+    check_splits(data);
 }
 
 // ---- the function for C
@@ -802,13 +1077,7 @@ int main(int arguments, char** words) {
     check_c_function(plain_bipartition);
     check_c_function(incremental_bipartition);
     part_done("samples and refusals");
-    check_banners();
-    check_size_lines();
-    check_entries();
-    check_text_lengths();
-    check_writer();
-    check_round_trips(500);
-    check_splits(data);
+    check_texts(data);
     part_done("texts");
     check_random_walks(30000);
     check_crafted_walks(10000);

@@ -28,7 +28,8 @@ struct Answer {
 
 enum : uint64_t {
     banner = 1, size_line, entry_form, too_big, off_matrix, repeated, count,
-    part, short_buffer, order, cap_range, no_split, budget_range, state
+    part, short_buffer, order, cap_range, no_split, budget_range, state,
+    not_square, above_diagonal
 };
 
 // Marks of lines. A marking of a trail holds only the first three.
