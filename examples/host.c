@@ -2,6 +2,7 @@
  * and volume. It counts the cut lines itself, and ends with status 1 if they are not the volume that the function wrote. */
 #include "gulzoreno.h"
 
+#include <ctype.h>
 #include <stdio.h>
 #include <stdlib.h>
 #include <string.h>
@@ -74,37 +75,64 @@ static int by_place(const void *a, const void *b)
     return memcmp(a, b, 2);
 }
 
+/* Whether the last word of a text's first line is symmetric, in any letter case. Changes the line. */
+static int is_symmetric(char *banner)
+{
+    const char *last = "";
+    for (char *c = banner; *c != 0; c++)
+        *c = (char)tolower((unsigned char)*c);
+    for (char *word = strtok(banner, " \t\r\n"); word != NULL; word = strtok(NULL, " \t\r\n"))
+        last = word;
+    return strcmp(last, "symmetric") == 0;
+}
+
+/* Adds a nonzero, its row and column counted from 1. Answers 0 if it lies in the matrix and there is room. */
+static int add_nonzero(struct pattern *p, unsigned i, unsigned j)
+{
+    if (i < 1 || i > p->m || j < 1 || j > p->n || p->nonzeros == GULZORENO_MOST_NONZEROS)
+        return 1;
+    p->list[2 * p->nonzeros] = (uint8_t)(i - 1);
+    p->list[2 * p->nonzeros + 1] = (uint8_t)(j - 1);
+    p->nonzeros++;
+    return 0;
+}
+
+/* Reads a Matrix Market pattern from an open file; values are skipped, and a symmetric one is opened out. Answers 0 if it fits. */
+static int read_lines(FILE *f, struct pattern *p)
+{
+    char line[1024];
+    unsigned m, n, entries, i, j;
+    if (fgets(line, sizeof line, f) == NULL)
+        return 1;
+    int symmetric = is_symmetric(line);
+    do {
+        if (fgets(line, sizeof line, f) == NULL)
+            return 1;
+    } while (line[0] == '%');
+    if (sscanf(line, "%u %u %u", &m, &n, &entries) != 3 || m > GULZORENO_MOST_LINES || n > GULZORENO_MOST_LINES)
+        return 1;
+    p->m = m;
+    p->n = n;
+    p->nonzeros = 0;
+    for (unsigned t = 0; t < entries; t++) {
+        if (fgets(line, sizeof line, f) == NULL || sscanf(line, "%u %u", &i, &j) != 2 || add_nonzero(p, i, j) != 0)
+            return 1;
+        if (symmetric && i != j && add_nonzero(p, j, i) != 0)
+            return 1;
+    }
+    qsort(p->list, p->nonzeros, 2, by_place);
+    return 0;
+}
+
 /* Reads a Matrix Market pattern that fits the limits. Answers 0 if it could. */
 static int read_pattern(const char *path, struct pattern *p)
 {
-    char line[1024];
-    unsigned m, n, nonzeros, i, j;
     FILE *f = fopen(path, "r");
     if (f == NULL)
         return 1;
-    do {
-        if (fgets(line, sizeof line, f) == NULL)
-            goto bad;
-    } while (line[0] == '%');
-    if (sscanf(line, "%u %u %u", &m, &n, &nonzeros) != 3)
-        goto bad;
-    if (m > GULZORENO_MOST_LINES || n > GULZORENO_MOST_LINES || nonzeros > GULZORENO_MOST_NONZEROS)
-        goto bad;
-    for (unsigned t = 0; t < nonzeros; t++) {
-        if (fscanf(f, "%u %u", &i, &j) != 2 || i < 1 || i > m || j < 1 || j > n)
-            goto bad;
-        p->list[2 * t] = (uint8_t)(i - 1);
-        p->list[2 * t + 1] = (uint8_t)(j - 1);
-    }
+    int bad = read_lines(f, p);
     fclose(f);
-    qsort(p->list, nonzeros, 2, by_place);
-    p->m = m;
-    p->n = n;
-    p->nonzeros = nonzeros;
-    return 0;
-bad:
-    fclose(f);
-    return 1;
+    return bad;
 }
 
 int main(int argc, char **argv)

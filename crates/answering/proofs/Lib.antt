@@ -4,3 +4,4 @@ pub mod Enough
 pub mod Roomy
 pub mod Fitting
 pub mod Whole
+pub mod SameNonzeros

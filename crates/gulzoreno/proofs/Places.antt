@@ -11,13 +11,13 @@ use lib.ListN.{length}
 use Rattle.counting.specs.Tests.{_or_}
 use Rattle.counting.proofs.Joined.{never}
 use Rattle.model.specs.declared.Word.{Word}
-use Rattle.model.specs.declared.Word.the-variants.{Banner, SizeLine, EntryForm, TooBig, OffMatrix, Repeated, Count, BadPart, ShortBuffer, Order, Cap, NoSplit, Budget, State}
+use Rattle.model.specs.declared.Word.the-variants.{TooBig, OffMatrix, ShortBuffer, Order, Cap, NoSplit, Budget, State}
 use Rattle.model.specs.declared.Verdict.{Verdict}
 use Rattle.model.specs.declared.Verdict.the-variants.{Accepted, Refused}
 use Rattle.model.specs.declared.Search.{Search}
 use Rattle.model.specs.declared.ShowAnswer.the-variants as show-answer
 use Rattle.model.specs.Limits.{nonzeroLimit, capLimit, budgetLimit}
-use Rattle.model.specs.Refusal.{refusalNumber, refuse, _then_, eachVerdict}
+use Rattle.model.specs.Refusal.{refuse, _then_, eachVerdict}
 use Rattle.model.specs.Pattern.{entryBytes, rowIn, columnIn, patternOf}
 use Rattle.model.specs.Walk.{Record, rulesOf}
 use Rattle.model.specs.State.{recordOf, stateFine}
@@ -25,39 +25,6 @@ use Rattle.model.specs.Calls.{sizesVerdict, rises, entryVerdict, entriesVerdict
 use Rattle.model.proofs.Theorems.Checks.{then-first, nonzeros-small}
 use Rattle.gulzoreno.specs.Figures.{figuresBytes}
 use Rattle.gulzoreno.specs.Host.{outputVerdict, hostVerdict}
-
--- the numbers of the table
-pub number-small : (word : Word) → refusalNumber word ≤ 14
-number-small Banner = omega arith
-number-small SizeLine = omega arith
-number-small EntryForm = omega arith
-number-small TooBig = omega arith
-number-small OffMatrix = omega arith
-number-small Repeated = omega arith
-number-small Count = omega arith
-number-small BadPart = omega arith
-number-small ShortBuffer = omega arith
-number-small Order = omega arith
-number-small Cap = omega arith
-number-small NoSplit = omega arith
-number-small Budget = omega arith
-number-small State = omega arith
-
-pub number-some : (word : Word) → 1 ≤ refusalNumber word
-number-some Banner = omega arith
-number-some SizeLine = omega arith
-number-some EntryForm = omega arith
-number-some TooBig = omega arith
-number-some OffMatrix = omega arith
-number-some Repeated = omega arith
-number-some Count = omega arith
-number-some BadPart = omega arith
-number-some ShortBuffer = omega arith
-number-some Order = omega arith
-number-some Cap = omega arith
-number-some NoSplit = omega arith
-number-some Budget = omega arith
-number-some State = omega arith
 
 -- where this verdict refuses, the place is at most a limit
 abbrev PlaceTo : ℕ → Verdict → Type 0

@@ -27,7 +27,7 @@ use Rattle.search.specs.Demand.{SplitAnswered}
 use Rattle.gulzoreno.specs.Figures.{figuresBytes, withFigures}
 use Rattle.gulzoreno.specs.Host.{hostVerdict, hostSearch, hostCodeAfter, figuresShown, bipartitionCode, bipartitionParts, bipartitionFigures}
 use Rattle.gulzoreno.specs.Promise.{figureIn, Promise}
-use Rattle.gulzoreno.proofs.Places.{number-some}
+use Rattle.model.proofs.Theorems.Numbers.{number-range}
 use Rattle.gulzoreno.proofs.Walked.{listed, figures-long, at-end, told, code-is, parts-are, figures-are}
 use Rattle.gulzoreno.proofs.Reading as reading
 
@@ -35,14 +35,14 @@ use Rattle.gulzoreno.proofs.Reading as reading
 code-accepted : (v : Verdict) (a : ShowAnswer) → hostCodeAfter v a ≡ 0 → v ≡ Accepted
 unfolding hostCodeAfter refusalCode replyCode refusal
 code-accepted Accepted a h = refl
-code-accepted (Refused word place) a h = no-way (omega (arith, number-some word))
+code-accepted (Refused word place) a h = no-way (omega (arith, number-range word .0))
 
 -- and not "none yet"
 code-split : (a : ShowAnswer) → showCode a ≡ 0 → (shown low : ℕ) × (a ≡ show-answer.Split shown low)
 unfolding showCode showReply replyCode given noneYet refusal
 code-split (show-answer.Split shown low) h = (shown, low, refl)
 code-split (show-answer.NoneYet low) h = no-way (omega arith)
-code-split (show-answer.Refused word place) h = no-way (omega (arith, number-some word))
+code-split (show-answer.Refused word place) h = no-way (omega (arith, number-range word .0))
 
 -- complete as a number
 complete-so : (complete : Bool) → completeNumber complete ≡ 1 → complete ≡ true

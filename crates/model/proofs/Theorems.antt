@@ -3,5 +3,6 @@ pub mod Accepted
 pub mod OfList
 pub mod Least
 pub mod Ends
+pub mod Numbers
 pub mod Replies
 pub mod Refusals

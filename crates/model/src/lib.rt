@@ -38,6 +38,8 @@ pub enum Word {
     NoSplit,
     Budget,
     State,
+    NotSquare,
+    AboveDiagonal,
 }
 
 // What a check answers: nothing to refuse, or a word of the table and a place.

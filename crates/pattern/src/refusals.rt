@@ -22,5 +22,7 @@ pub fn refusal_number(word: Word) -> u64
         Word::NoSplit => 12,
         Word::Budget => 13,
         Word::State => 14,
+        Word::NotSquare => 15,
+        Word::AboveDiagonal => 16,
     }
 }

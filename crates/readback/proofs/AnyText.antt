@@ -1,32 +1,35 @@
--- Of any text that is read, the list is inside the matrix and in order, and the parts are 0 or 1: what is read may be written.
+-- Of any text that is read, general or symmetric, the list is inside the matrix and in order, and the parts are 0 or 1: what is read may be written.
 -- Assumes nothing.
 use mathlib.Core.Bool.{Bool, true, false}
 use mathlib.Core.List.{List}
 use mathlib.Core.Path.{_≡_, refl, sym, _∙_, ap}
-use Prim.Native.Nat.{ℕ, _*_, _≤_}
+use Prim.Native.Nat.{ℕ, _+_, _*_, _≤_}
 use native.Mathlib.Omega.{arith}
 use lib.Dec.{ltb}
 use lib.ListN.{length}
 use borrow.Author.Tests.{ltb-false, le-ltb}
 use Rattle.counting.specs.Tests.{_and_, _or_}
-use Rattle.counting.proofs.Joined.{and-other, or-fails, or-fails-left, or-fails-right, never}
+use Rattle.counting.specs.Sums.{count}
+use Rattle.counting.proofs.Joined.{by-test, and-other, or-fails, or-fails-left, or-fails-right, never}
 use Rattle.model.specs.declared.Word.the-variants.{ShortBuffer}
 use Rattle.model.specs.declared.Verdict.{Verdict}
 use Rattle.model.specs.declared.Verdict.the-variants.{Accepted, Refused}
 use Rattle.model.specs.Calls.{sizesVerdict, listVerdict}
-use Rattle.pattern.specs.Measures.{partsVerdict}
-use Rattle.model.proofs.Theorems.Checks.{refuse-no, then-accepted, then-first, rows-range, columns-range, then-second, refuse-not, each-fine}
+use Rattle.pattern.specs.Measures.{partVerdict, partsVerdict}
+use Rattle.model.proofs.Theorems.Checks.{refuse-no, then-accepted, then-first, then-second, refuse-not, each-fine, each-accepted}
+use Rattle.scanning.specs.Words.{isInteger}
 use Rattle.texts.specs.declared.Header.{Header}
 use Rattle.texts.specs.declared.ReadAnswer.the-variants as read-answer
-use Rattle.texts.specs.Header.{headerOf, short, headVerdict}
-use Rattle.texts.specs.Entries.{noCells, entriesFrom}
-use Rattle.texts.specs.Reading.{listed, parted, entriesBelow, answerRead, textVerdict, readVerdict, readCall, readList, readParts}
-use Rattle.texts.proofs.Answers.{head-sizes, parts-integer, below-list, below-parts, read-list-is, read-parts-is}
+use Rattle.texts.specs.Header.{headerOf, short, roomVerdict, headVerdict}
+use Rattle.texts.specs.Reading.{listed, parted, entriesBelow, nonzerosIn, answerRead, textVerdict, belowVerdict, readVerdict, cellsOf, readCall, readList, readParts}
+use Rattle.texts.proofs.Answers.{room-sizes, room-enough, head-square, head-room, head-lines, opened-symmetric, parts-integer, list-read, parts-read}
 use Rattle.writing.specs.Writing.{nonzeroVerdict, writeVerdict}
+use Rattle.readback.specs.TextSays.{onDiagonal}
 use Rattle.readback.proofs.Given.{GivesList, GivesParts, listed-length, parted-length, gives-listed, gives-parted}
-use Rattle.readback.proofs.Entered.{Entered, entered-none}
-use Rattle.readback.proofs.Taken.{entries-entered}
-use Rattle.readback.proofs.InOrder.{entry-accepted, part-accepted, list-fine, parts-fine}
+use Rattle.readback.proofs.Entered.{Entered}
+use Rattle.readback.proofs.AllNoted.{AllNoted, all-noted}
+use Rattle.readback.proofs.Opened.{general-size, symmetric-size}
+use Rattle.readback.proofs.InOrder.{entry-accepted, list-fine, parts-fine}
 
 module _ (text list parts : List ℕ) (accepted : readVerdict text list parts ≡ Accepted) where
   abbrev h : Header
@@ -36,79 +39,96 @@ module _ (text list parts : List ℕ) (accepted : readVerdict text list parts �
   unfolding readVerdict textVerdict
   head-fine = then-first _ _ accepted
 
-  pub below-fine : entriesFrom text h (length text) (h .next) 0 noCells .verdict ≡ Accepted
-  unfolding readVerdict entriesBelow
+  below-fine : belowVerdict text h (length list) (length parts) ≡ Accepted
+  unfolding readVerdict
   below-fine = then-second _ _ accepted
 
-  pub sizes : sizesVerdict (h .m) (h .n) (h .nonzeros) ≡ Accepted
-  sizes = head-sizes h (length text) (length list) (length parts) head-fine
+  pub lines : (h .m ≤ 120) × (h .n ≤ 120)
+  lines = head-lines h (length text) (length list) (length parts) head-fine
 
-  rooms : ltb (length list) (2 * h .nonzeros) or (h .integer and ltb (length parts) (h .nonzeros)) ≡ false
-  unfolding headVerdict short
-  rooms = refuse-not _ ShortBuffer 0 (then-second _ _ head-fine)
+  pub square : h .symmetric ≡ true → h .m ≡ h .n
+  square s = head-square h (length text) (length list) (length parts) head-fine s .1
 
-  list-room : 2 * h .nonzeros ≤ length list
-  list-room = ltb-false (length list) (2 * h .nonzeros) (or-fails-left _ (h .integer and ltb (length parts) (h .nonzeros)) rooms)
+  -- the table of its entries
+  pub all : AllNoted text (cellsOf text)
+  unfolding belowVerdict cellsOf entriesBelow
+  all = all-noted text (lines .0) (lines .1) square (then-first _ _ below-fine)
 
-  parts-room : h .integer ≡ true → h .nonzeros ≤ length parts
+  -- N
+  abbrev pub size : ℕ
+  size = nonzerosIn h (cellsOf text)
+
+  size-is : size ≡ all .size
+  unfolding nonzerosIn
+  size-is = all .entered .total
+
+  pub entered : Entered (h .m) (h .n) (cellsOf text) size
+  entered = rw size-is (all .entered)
+
+  pub general-number : h .symmetric ≡ false → size ≡ h .entries
+  general-number s = size-is ∙ general-size all s
+
+  pub symmetric-number : h .symmetric ≡ true → size + count (onDiagonal text) (length text) ≡ 2 * h .entries
+  symmetric-number s = ap (λ k. k + count (onDiagonal text) (length text)) size-is ∙ symmetric-size all s
+
+  room-fine : roomVerdict h size (length list) (length parts) ≡ Accepted
+  unfolding belowVerdict cellsOf
+  room-fine =
+      by-test
+      (h .symmetric)
+      (λ s. opened-symmetric h size (length list) (length parts) _ s refl ∙ then-second _ _ below-fine)
+      (λ s. ap (λ k. roomVerdict h k (length list) (length parts)) (general-number s)
+      ∙ head-room h (length text) (length list) (length parts) head-fine s)
+
+  pub sizes : sizesVerdict (h .m) (h .n) size ≡ Accepted
+  sizes = room-sizes h size (length list) (length parts) room-fine
+
+  rooms : ltb (length list) (2 * size) or (isInteger (h .field) and ltb (length parts) size) ≡ false
+  unfolding short
+  rooms = room-enough h size (length list) (length parts) room-fine
+
+  list-room : 2 * size ≤ length list
+  list-room = ltb-false (length list) (2 * size) (or-fails-left _ (isInteger (h .field) and ltb (length parts) size) rooms)
+
+  parts-room : isInteger (h .field) ≡ true → size ≤ length parts
   parts-room i =
       ltb-false
       (length parts)
-      (h .nonzeros)
-      (and-other (h .integer) (ltb (length parts) (h .nonzeros)) (or-fails-right (ltb (length list) (2 * h .nonzeros)) _ rooms) i)
+      size
+      (and-other (isInteger (h .field)) (ltb (length parts) size) (or-fails-right (ltb (length list) (2 * size)) _ rooms) i)
 
-  -- the table of its entries
-  abbrev pub cells : List ℕ
-  cells = entriesFrom text h (length text) (h .next) 0 noCells .cells
+  pub list-is : listed (cellsOf text) (120 * h .m) list ≡ readList text list parts
+  unfolding readList
+  list-is = list-read h (readVerdict text list parts) (readVerdict text list parts) refl accepted (cellsOf text) (cellsOf text) list _ refl refl
 
-  pub entered : Entered (h .m) (h .n) cells (h .nonzeros)
-  entered =
-      entries-entered
-      text
-      h
-      (rows-range (h .m) (h .n) (h .nonzeros) sizes .1)
-      (columns-range (h .m) (h .n) (h .nonzeros) sizes .1)
-      (length text)
-      (h .next)
-      0
-      noCells
-      below-fine
-      (entered-none (h .m) (h .n))
-      (omega arith)
-
-  pub list-is : listed cells (120 * h .m) list ≡ readList text list parts
-  list-is =
-      read-list-is text list parts h (headVerdict h (length text) (length list) (length parts)) refl refl (listed cells (120 * h .m) list) head-fine
-      (below-list text h noCells cells (entriesFrom text h (length text) (h .next) 0 noCells .verdict) refl refl refl list (listed cells (120 * h .m) list) below-fine refl)
-
-  pub parts-are : h .integer ≡ true → parted cells (120 * h .m) parts ≡ readParts text list parts
+  pub parts-are : isInteger (h .field) ≡ true → parted (cellsOf text) (120 * h .m) parts ≡ readParts text list parts
+  unfolding readParts
   parts-are i =
-      read-parts-is text list parts h (headVerdict h (length text) (length list) (length parts)) refl refl (parted cells (120 * h .m) parts) head-fine
-      (below-parts text h noCells cells (entriesFrom text h (length text) (h .next) 0 noCells .verdict) refl refl refl parts (parted cells (120 * h .m) parts) below-fine
-      (parts-integer h cells parts (parted cells (120 * h .m) parts) (h .m) i refl refl))
+      parts-read h (readVerdict text list parts) (readVerdict text list parts) refl accepted (cellsOf text) (cellsOf text) parts _ refl
+      (parts-integer h (cellsOf text) parts (parted (cellsOf text) (120 * h .m) parts) (h .m) i refl refl)
 
-  pub gives-list : GivesList cells (120 * h .m) (readList text list parts)
-  gives-list = rw list-is at (gives-listed cells list (120 * h .m) (omega (arith, entered .total, list-room)))
+  pub gives-list : GivesList (cellsOf text) (120 * h .m) (readList text list parts)
+  gives-list = rw list-is at (gives-listed (cellsOf text) list (120 * h .m) (omega (arith, entered .total, list-room)))
 
-  pub gives-parts : h .integer ≡ true → GivesParts cells (120 * h .m) (readParts text list parts)
-  gives-parts i = rw (parts-are i) at (gives-parted cells parts (120 * h .m) (omega (arith, entered .total, parts-room i)))
+  pub gives-parts : isInteger (h .field) ≡ true → GivesParts (cellsOf text) (120 * h .m) (readParts text list parts)
+  gives-parts i = rw (parts-are i) at (gives-parted (cellsOf text) parts (120 * h .m) (omega (arith, entered .total, parts-room i)))
 
-  list-length : 2 * h .nonzeros ≤ length (readList text list parts)
-  list-length = omega (arith, ap length list-is, listed-length cells list (120 * h .m), list-room)
+  list-length : 2 * size ≤ length (readList text list parts)
+  list-length = omega (arith, ap length list-is, listed-length (cellsOf text) list (120 * h .m), list-room)
 
-  parts-length : h .integer ≡ true → h .nonzeros ≤ length (readParts text list parts)
-  parts-length i = omega (arith, ap length (parts-are i), parted-length cells parts (120 * h .m), parts-room i)
+  parts-length : isInteger (h .field) ≡ true → size ≤ length (readParts text list parts)
+  parts-length i = omega (arith, ap length (parts-are i), parted-length (cellsOf text) parts (120 * h .m), parts-room i)
 
-  list-accepted : listVerdict (h .m) (h .n) (h .nonzeros) (readList text list parts) ≡ Accepted
+  list-accepted : listVerdict (h .m) (h .n) size (readList text list parts) ≡ Accepted
   list-accepted = list-fine entered gives-list sizes list-length
 
-  parts-accepted : h .integer ≡ true → partsVerdict (h .nonzeros) (readParts text list parts) ≡ Accepted
+  parts-accepted : isInteger (h .field) ≡ true → partsVerdict size (readParts text list parts) ≡ Accepted
   parts-accepted i = parts-fine entered (gives-parts i) (parts-length i)
 
-  split-accepted :
-      h .integer ≡ true → writeVerdict (h .m) (h .n) (h .nonzeros) (readList text list parts) (readParts text list parts) ≡ Accepted
-  unfolding writeVerdict nonzeroVerdict
-  split-accepted i =
+  -- with any parts that are accepted
+  split-accepted : (given : List ℕ) → partsVerdict size given ≡ Accepted → writeVerdict (h .m) (h .n) size (readList text list parts) given ≡ Accepted
+  unfolding writeVerdict nonzeroVerdict partsVerdict
+  split-accepted given fine =
       then-accepted _ sizes
       ∙ then-accepted
       _
@@ -116,50 +136,51 @@ module _ (text list parts : List ℕ) (accepted : readVerdict text list parts �
       ShortBuffer
       0
       (or-fails
-      (le-ltb (length (readList text list parts)) (2 * h .nonzeros) list-length)
-      (le-ltb (length (readParts text list parts)) (h .nonzeros) (parts-length i))))
+      (le-ltb (length (readList text list parts)) (2 * size) list-length)
+      (refuse-not (ltb (length given) size) ShortBuffer 0 (then-first _ _ fine))))
       ∙ each-fine
-      (nonzeroVerdict (h .m) (h .n) (readList text list parts) (readParts text list parts))
-      (h .nonzeros)
-      (λ t l. then-accepted _ (entry-accepted entered gives-list t l) ∙ part-accepted entered (gives-parts i) t l)
+      (nonzeroVerdict (h .m) (h .n) (readList text list parts) given)
+      size
+      (λ t l. then-accepted _ (entry-accepted entered gives-list t l) ∙ each-accepted (partVerdict given) size t (then-second _ _ fine) l)
 
 -- what an answer tells of the verdict and the header
-pub record Answered (v : Verdict) (h : Header) (m n nonzeros : ℕ) (integer : Bool) : Type 0 where
+pub record Answered (v : Verdict) (h : Header) (size m n nonzeros : ℕ) (integer : Bool) : Type 0 where
   pub accepted : v ≡ Accepted
   pub m-is : h .m ≡ m
   pub n-is : h .n ≡ n
-  pub nonzeros-are : h .nonzeros ≡ nonzeros
-  pub integer-is : h .integer ≡ integer
+  pub nonzeros-are : size ≡ nonzeros
+  pub integer-is : isInteger (h .field) ≡ integer
+
+answered-by :
+    (v : Verdict) (h : Header) (size m n nonzeros : ℕ) (integer : Bool) → answerRead v h size ≡ read-answer.Read m n nonzeros integer →
+    Answered v h size m n nonzeros integer
+unfolding answerRead
+answered-by Accepted h size m n nonzeros integer e =
+    record { accepted = refl; m-is = cc; n-is = cc; nonzeros-are = cc; integer-is = cc }
+answered-by (Refused word place) h size m n nonzeros integer e = never (cc)
 
 pub answered :
-    (v : Verdict) (h : Header) (m n nonzeros : ℕ) (integer : Bool) → answerRead v h ≡ read-answer.Read m n nonzeros integer →
-    Answered v h m n nonzeros integer
-unfolding answerRead
-answered Accepted h m n nonzeros integer e =
-    record { accepted = refl; m-is = cc; n-is = cc; nonzeros-are = cc; integer-is = cc }
-answered (Refused word place) h m n nonzeros integer e = never (cc)
+    (text list parts : List ℕ) {m n nonzeros : ℕ} {integer : Bool} → readCall text list parts ≡ read-answer.Read m n nonzeros integer →
+    Answered (readVerdict text list parts) (headerOf text) (nonzerosIn (headerOf text) (cellsOf text)) m n nonzeros integer
+unfolding readCall
+answered text list parts e = answered-by _ _ _ _ _ _ _ e
 
 -- a reading of any text, with its answer
-module _ (text list parts : List ℕ) (m n nonzeros : ℕ) where
-  pub read-list-fine :
-      (integer : Bool) → readCall text list parts ≡ read-answer.Read m n nonzeros integer →
-      listVerdict m n nonzeros (readList text list parts) ≡ Accepted
-  unfolding readCall
-  read-list-fine integer e =
-      let a = answered (readVerdict text list parts) (headerOf text) m n nonzeros integer e in
+module _ (text list parts : List ℕ) (m n nonzeros : ℕ) (integer : Bool) (e : readCall text list parts ≡ read-answer.Read m n nonzeros integer) where
+  pub read-list-fine : listVerdict m n nonzeros (readList text list parts) ≡ Accepted
+  read-list-fine =
+      let a = answered text list parts e in
       rw (sym (a .m-is), sym (a .n-is), sym (a .nonzeros-are)) (list-accepted text list parts (a .accepted))
 
-  pub read-parts-fine :
-      readCall text list parts ≡ read-answer.Read m n nonzeros true → partsVerdict nonzeros (readParts text list parts) ≡ Accepted
-  unfolding readCall
-  read-parts-fine e =
-      let a = answered (readVerdict text list parts) (headerOf text) m n nonzeros true e in
-      rw (sym (a .nonzeros-are)) (parts-accepted text list parts (a .accepted) (a .integer-is))
+  pub read-parts-fine : integer ≡ true → partsVerdict nonzeros (readParts text list parts) ≡ Accepted
+  read-parts-fine i =
+      let a = answered text list parts e in
+      rw (sym (a .nonzeros-are)) (parts-accepted text list parts (a .accepted) (a .integer-is ∙ i))
 
-  pub read-writes :
-      readCall text list parts ≡ read-answer.Read m n nonzeros true →
-      writeVerdict m n nonzeros (readList text list parts) (readParts text list parts) ≡ Accepted
-  unfolding readCall
-  read-writes e =
-      let a = answered (readVerdict text list parts) (headerOf text) m n nonzeros true e in
-      rw (sym (a .m-is), sym (a .n-is), sym (a .nonzeros-are)) (split-accepted text list parts (a .accepted) (a .integer-is))
+  -- the list may be written with any parts that are accepted, and so with those that are read
+  pub read-writes : (given : List ℕ) → partsVerdict nonzeros given ≡ Accepted → writeVerdict m n nonzeros (readList text list parts) given ≡ Accepted
+  read-writes given fine =
+      let a = answered text list parts e in
+      rw
+      (sym (a .m-is), sym (a .n-is), sym (a .nonzeros-are))
+      (split-accepted text list parts (a .accepted) given (ap (λ k. partsVerdict k given) (a .nonzeros-are) ∙ fine))

@@ -6,25 +6,27 @@ use mathlib.Core.Path.{_≡_, refl, sym, _∙_, ap}
 use Prim.Native.Nat.{ℕ, zero, suc, _+_, _^_, _≤_, _<_}
 use native.Mathlib.Numerals.{add-one}
 use native.Mathlib.Omega.{arith}
+use lib.Dec.{ltb}
 use lib.ListN.{length, getD, set}
 use borrow.Author.Tests.{ne-eqb, lt-leb, le-ltb}
-use Rattle.counting.proofs.Joined.{fails, or-fails, pick-false}
-use Rattle.model.specs.declared.Word.the-variants.{EntryForm, OffMatrix, Repeated, Count, BadPart}
+use Rattle.counting.proofs.Joined.{fails, and-fails-left, or-fails, pick-false}
+use Rattle.model.specs.declared.Word.the-variants.{EntryForm, OffMatrix, Repeated, Count, BadPart, AboveDiagonal}
 use Rattle.model.specs.declared.Verdict.the-variants.{Accepted}
 use Rattle.model.specs.Pattern.{rowIn, columnIn}
 use Rattle.model.specs.Calls.{outside}
 use Rattle.model.proofs.Theorems.Checks.{refuse-no, then-accepted}
+use Rattle.scanning.specs.declared.Field.the-variants.{Integer}
 use Rattle.scanning.specs.declared.Numbers.{Numbers}
 use Rattle.scanning.specs.Lines.{lineNext, emptyLine}
 use Rattle.texts.specs.declared.Header.{Header}
-use Rattle.texts.specs.Entries.{entryAt, cellOf, noCells, isGiven, cellMark, entryCheck, lineVerdict, noted, endVerdict, entriesFrom}
-use Rattle.texts.proofs.Cells.{ended, entries-on, entries-end, entries-one}
+use Rattle.texts.specs.Entries.{entryAt, cellOf, noCells, isGiven, cellMark, aboveDiagonal, entryCheck, lineVerdict, opened, noted, endVerdict, entriesFrom}
+use Rattle.texts.proofs.Cells.{mirror-general, ended, entries-on, entries-end, entries-one}
 use Rattle.writing.specs.Written.{sizesText, entryText, entriesText}
 use Rattle.writing.proofs.Held.{Holds}
 use Rattle.writing.proofs.Back.{lineOver, sizes-length}
 use Rattle.writing.proofs.Rows.{row-next, row-filled, row-numbers}
 use Rattle.readback.proofs.Rising.{rising}
-use Rattle.readback.proofs.Table.{tableOf, table-given, cell-is, mark-is}
+use Rattle.readback.proofs.Table.{tableOf, table-length, table-given, cell-is, mark-is, mark-again}
 use Rattle.readback.proofs.Accepted.{cellIn, Fine}
 use Rattle.readback.proofs.Lines.{entries-none, entries-length, entries-rise, held-entry}
 
@@ -37,11 +39,12 @@ abbrev pub headOf : ℕ → ℕ → ℕ → ℕ → ℕ → Header
 headOf m n nonzeros at start =
     record {
       fine = true;
-      integer = true;
+      field = Integer;
+      symmetric = false;
       sized = true;
       m = m;
       n = n;
-      nonzeros = nonzeros;
+      entries = nonzeros;
       at = at;
       next = start;
     }
@@ -111,14 +114,17 @@ module _
         omega (arith, w .2, rising (split .in-order) (w .0) t (w .1) l))
 
     check : entryCheck h entry (here t) (table t) ≡ Accepted
-    unfolding entryCheck
+    unfolding entryCheck aboveDiagonal
     check =
         then-accepted
         _
         (then-accepted
         _
+        (then-accepted
+        _
         (then-accepted _ (refuse-no EntryForm (here t) refl)
         ∙ refuse-no OffMatrix (here t) (or-fails (inside-range m (rowIn list t) (split .row-in t l)) (inside-range n (columnIn list t) (split .column-in t l))))
+        ∙ refuse-no AboveDiagonal (here t) (and-fails-left (ltb (rowIn list t + 1) (columnIn list t + 1)) refl))
         ∙ refuse-no BadPart (here t) (inside-range 2 (getD parts t 0) (omega (arith, split .part-in t l))))
         ∙ refuse-no Repeated (here t) fresh
 
@@ -130,12 +136,26 @@ module _
         ∙ ap (λ e. entryCheck h e (here t) (table t)) entry-back
         ∙ check
 
+    -- one nonzero, noted in one cell
+    noted-once : opened h entry (table t) ≡ set (table t) (cellOf (rowIn list t + 1) (columnIn list t + 1)) (cellMark (getD parts t 0 + 1))
+    unfolding opened cellOf
+    noted-once =
+        let cell = cellOf (rowIn list t + 1) (columnIn list t + 1) in
+        let mark = cellMark (getD parts t 0 + 1) in
+        ap (λ q. set (set (table t) cell mark) q mark) (mirror-general h entry refl)
+        ∙ mark-again
+        (table t)
+        cell
+        mark
+        (omega (arith, table-length (cellIn list) (markIn parts) t, split .rows, split .row-in t l, split .columns, split .column-in t l))
+
     new-table : table (suc t) ≡ noted text h (here t) (table t)
     unfolding noted tableOf
     new-table =
         sym
         (pick-false (table t) _ filled
-        ∙ ap (λ (e : Numbers). set (table t) (cellOf (e .first) (e .second)) (cellMark (e .third))) entry-back
+        ∙ ap (λ (e : Numbers). opened h e (table t)) entry-back
+        ∙ noted-once
         ∙ ap (λ c. set (table t) c (cellMark (getD parts t 0 + 1))) (cell-is (rowIn list t) (columnIn list t))
         ∙ ap (set (table t) (cellIn list t)) (mark-is (getD parts t 0 + 1) (omega arith) (omega (arith, split .part-in t l))))
 

@@ -57,8 +57,8 @@ module _ {m n nonzeros : ℕ} {cells : List ℕ} (e : Entered m n cells nonzeros
     inside t l =
         let a = cell-of t l in
         or-fails
-        (lt-leb m (rowIn list t) (omega (arith, row-is t l, e .row-in (a .0) (a .2))))
-        (lt-leb n (columnIn list t) (omega (arith, column-is t l, e .column-in (a .0) (a .2))))
+        (lt-leb m (rowIn list t) (omega (arith, row-is t l, e .inside (a .0) (a .2) .row)))
+        (lt-leb n (columnIn list t) (omega (arith, column-is t l, e .inside (a .0) (a .2) .column)))
 
     in-order : (t : ℕ) → t < nonzeros → rises list t ≡ true
     unfolding rises

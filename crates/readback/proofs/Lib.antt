@@ -9,12 +9,16 @@ pub mod Nonzeros
 pub mod ReadsBack
 pub mod WriteRead
 pub mod Entered
-pub mod Taken
+pub mod Mirror
 pub mod InOrder
 pub mod AnyText
 pub mod LinesBelow
 pub mod Noted
 pub mod AllNoted
+pub mod Opened
 pub mod TextSays
+pub mod Mirrored
+pub mod SameNonzeros
+pub mod ReadWriteRead
 pub mod Refusals
 pub mod OtherBytes

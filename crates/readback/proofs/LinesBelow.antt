@@ -1,6 +1,6 @@
 -- The lines after the size line rise until the text's end, and past it none is an entry's.
 -- Assumes nothing.
-use mathlib.Core.Bool.{true, false, not}
+use mathlib.Core.Bool.{Bool, true, false, not}
 use mathlib.Core.List.{List}
 use mathlib.Core.Path.{_≡_, refl, sym, ap}
 use mathlib.Core.Logic.{⊎-elim}
@@ -81,11 +81,12 @@ module _ (text : List ℕ) where
         (λ z. ltb-true k top z)
         (λ z. omega (arith, entry-there k e, lines-rise top k (ltb-false k top z)))
 
-    pub entries-all : count (isEntry text) (length text) ≡ count (isEntry text) top
-    entries-all =
+    -- and all of any kind of entry
+    pub entries-all : (test : ℕ → Bool) → ((k : ℕ) → test k ≡ true → isEntry text k ≡ true) → count test (length text) ≡ count test top
+    entries-all test kind =
         by-test
         (ltb top (length text))
         (λ z. let l = ltb-true top (length text) z in
-        count-flat (isEntry text) top (length text) (omega arith) (λ s a b. fails (isEntry text s) (λ e. omega (arith, entry-before s e))))
+        count-flat test top (length text) (omega arith) (λ s a b. fails (test s) (λ e. omega (arith, entry-before s (kind s e)))))
         (λ z. sym
-        (count-flat (isEntry text) (length text) top (ltb-false top (length text) z) (λ s a b. fails (isEntry text s) (λ e. omega (arith, entry-among s e)))))
+        (count-flat test (length text) top (ltb-false top (length text) z) (λ s a b. fails (test s) (λ e. omega (arith, entry-among s (kind s e))))))

@@ -7,18 +7,18 @@ use Prim.Native.Nat.{ℕ, _+_, _*_, _^_, _≤_, _<_}
 use native.Mathlib.Omega.{arith}
 use lib.ListN.{length}
 use borrow.Author.Tests.{le-ltb}
-use Rattle.counting.proofs.Joined.{or-fails, and-fails-right}
+use Rattle.counting.specs.Sums.{count}
+use Rattle.counting.proofs.Joined.{or-fails, and-fails-right, pick-false}
 use Rattle.model.specs.declared.Word.the-variants.{Banner, SizeLine, TooBig, ShortBuffer}
 use Rattle.model.specs.declared.Verdict.the-variants.{Accepted}
-use Rattle.model.specs.Calls.{sizesVerdict}
 use Rattle.model.proofs.Theorems.Checks.{refuse-no, then-accepted}
 use Rattle.scanning.specs.Checks.{moved}
 use Rattle.texts.specs.declared.Header.{Header}
 use Rattle.texts.specs.declared.ReadAnswer.the-variants as read-answer
-use Rattle.texts.specs.Header.{textLimit, headerOf, short, headVerdict}
-use Rattle.texts.specs.Entries.{noCells, Entries, entriesFrom}
-use Rattle.texts.specs.Reading.{listed, parted, readCall, readList, readParts}
-use Rattle.texts.proofs.Answers.{parts-integer, below-read, below-list, below-parts, read-answer-is, read-list-is, read-parts-is}
+use Rattle.texts.specs.Header.{textLimit, headerOf, short, sizeLineVerdict, roomVerdict, squareVerdict, headVerdict}
+use Rattle.texts.specs.Entries.{noCells, isGiven, Entries, entriesFrom}
+use Rattle.texts.specs.Reading.{listed, parted, entriesBelow, nonzerosIn, belowVerdict, readCall, readList, readParts}
+use Rattle.texts.proofs.Answers.{parts-integer, opened-general, cells-are, nonzeros-are, below-is, answer-read, list-read, parts-read, read-answer-is, read-list-is, read-parts-is}
 use Rattle.writing.specs.declared.Figures.{Figures}
 use Rattle.writing.specs.Written.{sizesText, entriesText, textOf}
 use Rattle.writing.specs.Writing.{writeVerdict}
@@ -61,13 +61,17 @@ module _
   header : h ≡ headerOf text
   header = sym (header-back f m n nonzeros (entriesText list parts nonzeros) m-small n-small nonzeros-small)
 
-  room : short h (length list-slice) (length parts-slice) ≡ false
+  room : short h nonzeros (length list-slice) (length parts-slice) ≡ false
   unfolding short
   room = or-fails (le-ltb (length list-slice) (2 * nonzeros) list-room) (and-fails-right true (le-ltb (length parts-slice) nonzeros parts-room))
 
-  sizes-moved : moved (sizesVerdict m n nonzeros) (sizeAt f) ≡ Accepted
-  unfolding moved
+  sizes-moved : sizeLineVerdict h nonzeros ≡ Accepted
+  unfolding sizeLineVerdict moved
   sizes-moved = ap (λ v. moved v (sizeAt f)) (split .sizes)
+
+  room-fine : roomVerdict h nonzeros (length list-slice) (length parts-slice) ≡ Accepted
+  unfolding roomVerdict
+  room-fine = then-accepted _ sizes-moved ∙ refuse-no ShortBuffer 0 room
 
   head-fine : headVerdict h (length text) (length list-slice) (length parts-slice) ≡ Accepted
   unfolding headVerdict
@@ -77,12 +81,10 @@ module _
       _
       (then-accepted
       _
-      (then-accepted
-      _
       (then-accepted _ (refuse-no TooBig 0 (le-ltb textLimit (length text) limit)) ∙ refuse-no Banner 0 refl)
       ∙ refuse-no SizeLine (sizeAt f) refl)
-      ∙ sizes-moved)
-      ∙ refuse-no ShortBuffer 0 room
+      ∙ pick-false (squareVerdict h) (roomVerdict h nonzeros (length list-slice) (length parts-slice)) refl
+      ∙ room-fine
 
   held-entries : Holds text start (entriesText list parts nonzeros)
   held-entries =
@@ -105,23 +107,34 @@ module _
   cells-read : table ≡ entriesFrom text h (length text) start 0 noCells .cells
   cells-read = sym (ap (λ (e : Entries). e .cells) all-read)
 
+  below-fine : Accepted ≡ belowVerdict text h (length list-slice) (length parts-slice)
+  below-fine =
+      below-is text h noCells refl Accepted Accepted Accepted table (count (isGiven table) (120 * m)) (length list-slice) (length parts-slice) verdict-read cells-read refl
+      (opened-general h (count (isGiven table) (120 * m)) (length list-slice) (length parts-slice) refl)
+      (sym (then-accepted Accepted refl))
+
+  cells-are-table : table ≡ entriesBelow text h .cells
+  cells-are-table = cells-are text h noCells refl table cells-read
+
   answer-back : readCall text list-slice parts-slice ≡ read-answer.Read m n nonzeros true
   answer-back =
       sym
       (read-answer-is text list-slice parts-slice h Accepted header (sym head-fine) (read-answer.Read m n nonzeros true) refl
-      (below-read text h noCells table Accepted refl verdict-read cells-read refl))
+      (answer-read h Accepted (belowVerdict text h (length list-slice) (length parts-slice)) below-fine refl nonzeros (nonzerosIn h (entriesBelow text h .cells)) true
+      (nonzeros-are text h noCells refl table nonzeros cells-read (sym (all-given split)))
+      refl))
 
   list-is : readList text list-slice parts-slice ≡ listed table (120 * m) list-slice
   list-is =
       sym
       (read-list-is text list-slice parts-slice h Accepted header (sym head-fine) (listed table (120 * m) list-slice) refl
-      (below-list text h noCells table Accepted refl verdict-read cells-read list-slice (listed table (120 * m) list-slice) refl refl))
+      (list-read h Accepted (belowVerdict text h (length list-slice) (length parts-slice)) below-fine refl table (entriesBelow text h .cells) list-slice (listed table (120 * m) list-slice) cells-are-table refl))
 
   parts-are : readParts text list-slice parts-slice ≡ parted table (120 * m) parts-slice
   parts-are =
       sym
       (read-parts-is text list-slice parts-slice h Accepted header (sym head-fine) (parted table (120 * m) parts-slice) refl
-      (below-parts text h noCells table Accepted refl verdict-read cells-read parts-slice (parted table (120 * m) parts-slice) refl
+      (parts-read h Accepted (belowVerdict text h (length list-slice) (length parts-slice)) below-fine refl table (entriesBelow text h .cells) parts-slice (parted table (120 * m) parts-slice) cells-are-table
       (parts-integer h table parts-slice (parted table (120 * m) parts-slice) m refl refl refl)))
 
   list-filled : Filled (listed table (120 * m) list-slice) list list-slice (2 * nonzeros)

@@ -9,7 +9,7 @@ use native.Mathlib.Nat.{eq-or-lt-of-le, le-of-suc-le-suc, mul-add-div, mul-add-m
 use native.Mathlib.Omega.{arith}
 use lib.Dec.{ltb, eqb}
 use lib.ListN.{length, getD, set, replicate, length-set, length-replicate, getD-replicate, List·getD-eq-default}
-use lib.Seq.{getD-set-same, getD-set-other}
+use lib.Seq.{getD-set-same, getD-set-other, set-getD}
 use borrow.Author.Tests.{ltb-true, ltb-false, eqb-true, eqb-false, eq-eqb, ne-eqb}
 use Rattle.counting.proofs.Joined.{no-way, by-test, clash, pick-true, pick-false}
 use Rattle.texts.specs.Entries.{cellOf, noCells, isGiven, cellMark}
@@ -41,6 +41,20 @@ mark-is p some few =
     (λ e. pick-true 1 2 e ∙ sym (eqb-true p 1 e))
     (λ e. let ne = eqb-false p 1 e in pick-false 1 2 e ∙ omega arith)
 
+-- the mark that a part leaves in a cell
+pub mark-range : (p : ℕ) → (1 ≤ cellMark p) × (cellMark p ≤ 2)
+unfolding cellMark
+mark-range p =
+    by-test
+    (eqb p 1)
+    (λ e. let q : cellMark p ≡ 1 = pick-true 1 2 e in (omega arith, omega arith))
+    (λ e. let q : cellMark p ≡ 2 = pick-false 1 2 e in (omega arith, omega arith))
+
+-- a cell that gets the mark that it has stays as it is
+pub mark-again : (cells : List ℕ) (p mark : ℕ) → p < length cells → set (set cells p mark) p mark ≡ set cells p mark
+mark-again cells p mark l =
+    ap (set (set cells p mark) p) (sym (getD-set-same cells p mark 0 l)) ∙ set-getD (set cells p mark) p 0
+
 pub none-length : length noCells ≡ 14_400
 unfolding noCells
 none-length = length-replicate {A = ℕ} 14_400 0
@@ -63,7 +77,7 @@ unfolding isGiven
 not-given cells p h = ap not (eq-eqb (getD cells p 0) 0 h)
 
 module _ (cell mark : ℕ → ℕ) where
-  table-length : (t : ℕ) → length (tableOf cell mark t) ≡ 14_400
+  pub table-length : (t : ℕ) → length (tableOf cell mark t) ≡ 14_400
   unfolding tableOf
   table-length zero = none-length
   table-length (suc t) = length-set (tableOf cell mark t) (cell t) (mark t) ∙ table-length t

@@ -2,8 +2,9 @@
 -- Assumes nothing.
 use mathlib.Core.Bool.{Bool, true}
 use mathlib.Core.List.{List}
-use mathlib.Core.Path.{_≡_, refl, sym, _∙_, ap}
-use Prim.Native.Nat.{ℕ, _+_, _-_, _*_, _/_, _%_, _≤_, _<_}
+use mathlib.Core.Path.{_≡_, sym, _∙_, ap}
+use mathlib.Core.Logic.{⊎-elim}
+use Prim.Native.Nat.{ℕ, _+_, _*_, _/_, _%_, _≤_, _<_}
 use native.Mathlib.Nat.{div-add-mod'}
 use native.Mathlib.Omega.{arith}
 use lib.Dec.{eqb, ltb}
@@ -11,81 +12,71 @@ use lib.ListN.{length, getD}
 use borrow.Author.Tests.{eqb-true, eqb-false, ltb-true, ltb-false}
 use Rattle.counting.specs.Sums.{count}
 use Rattle.counting.proofs.Joined.{by-test}
+use Rattle.model.specs.declared.Verdict.the-variants.{Accepted}
 use Rattle.model.specs.Pattern.{rowIn, columnIn}
-use Rattle.model.proofs.Theorems.Checks.{rows-range, columns-range}
 use Rattle.texts.specs.declared.Header.{Header}
 use Rattle.texts.specs.declared.ReadAnswer.the-variants as read-answer
 use Rattle.texts.specs.Header.{headerOf}
-use Rattle.texts.specs.Entries.{cellOf, isGiven}
-use Rattle.texts.specs.Reading.{readVerdict, readCall, readList, readParts}
+use Rattle.texts.specs.Entries.{isGiven}
+use Rattle.texts.specs.Reading.{readVerdict, cellsOf, readCall, readList, readParts}
 use Rattle.readback.specs.TextSays.{isEntry, entryBelow, InForm, LineGives, TextGives, InList, TextSays}
 use Rattle.counting.proofs.Passed.{count-later}
-use Rattle.readback.proofs.Table.{cell-row, cell-column, cell-is, mark-is}
+use Rattle.readback.proofs.Table.{cell-row, cell-column, mark-is}
 use Rattle.readback.proofs.Given.{GivesList, GivesParts}
-use Rattle.readback.proofs.Entered.{Entered}
+use Rattle.readback.proofs.Entered.{Entered, cell-before}
 use Rattle.readback.proofs.InOrder.{cell-of, row-is, column-is}
 use Rattle.readback.proofs.LinesBelow.{entry-among, entry-before, entries-all}
-use Rattle.readback.proofs.Noted.{cellBelow, line-given}
-use Rattle.readback.proofs.AllNoted.{AllNoted, all-noted}
-use Rattle.readback.proofs.AnyText.{below-fine, sizes, entered, gives-list, gives-parts, answered}
+use Rattle.readback.proofs.Mirror.{Own, own-stands, stands-own, same-cell}
+use Rattle.readback.proofs.Noted.{line-given}
+use Rattle.readback.proofs.AllNoted.{AllNoted}
+use Rattle.readback.proofs.AnyText.{lines, square, all, entered, general-number, symmetric-number, gives-list, gives-parts, answered}
 
 -- a table of all lines, the list and the parts that it gives
 module _
-    (text : List ℕ) {cells : List ℕ} (columns : headerOf text .n ≤ 120) (all : AllNoted text cells)
-    (table : Entered (headerOf text .m) (headerOf text .n) cells (headerOf text .nonzeros)) where
+    (text : List ℕ) {cells : List ℕ} {nonzeros : ℕ} (rows : headerOf text .m ≤ 120) (columns : headerOf text .n ≤ 120) (whole : AllNoted text cells)
+    (table : Entered (headerOf text .m) (headerOf text .n) cells nonzeros) where
   abbrev h : Header
   h = headerOf text
 
-  line-before : (k : ℕ) → isEntry text k ≡ true → k < all .lines
-  line-before k e = entry-before text (all .lines) (all .over) k e
+  line-before : (k : ℕ) → isEntry text k ≡ true → k < whole .lines
+  line-before k e = entry-before text (whole .lines) (whole .over) k e
 
   form-of : (k : ℕ) → isEntry text k ≡ true → InForm text k
-  form-of k e = all .noted-all .in-form k (line-before k e) e
+  form-of k e = whole .noted-all .in-form k (line-before k e) e
 
-  -- the cell of the line that gives (row, column)
-  line-cell : (k row column : ℕ) → LineGives text k (row + 1) (column + 1) → cellBelow text k ≡ 120 * row + column
-  line-cell k row column g = rw (g .row-is, g .column-is) (cell-is row column)
+  -- the cell of (row, column) is one of the line that gives it
+  line-own : (k row column : ℕ) → LineGives text k (row + 1) (column + 1) → Own text k (120 * row + column)
+  line-own k row column g = stands-own text rows columns k row column (g .stands)
 
   cell-given : (k row column : ℕ) → LineGives text k (row + 1) (column + 1) → isGiven cells (120 * row + column) ≡ true
   cell-given k row column g =
-      ap (isGiven cells) (sym (line-cell k row column g)) ∙ line-given (all .noted-all) k (line-before k (g .entry)) (g .entry)
+      line-given (whole .noted-all) k (120 * row + column) (line-before k (g .entry)) (g .entry) (line-own k row column g)
+
+  -- a cell that is given comes of a line
+  given-says : (p : ℕ) → isGiven cells p ≡ true → TextGives text (p / 120 + 1) (p % 120 + 1)
+  given-says p g =
+      let w = whole .noted-all .from-line p g in
+      record {
+        line = w .0;
+        gives = record { entry = w .2; stands = own-stands text rows columns (w .0) p (form-of (w .0) (w .2)) (w .3) };
+      }
 
   module _ {list : List ℕ} (gives : GivesList cells (120 * h .m) list) where
     -- from the list to a line
-    line-of : (row column : ℕ) → InList list (h .nonzeros) row column → TextGives text (row + 1) (column + 1)
-    unfolding cellOf
+    line-of : (row column : ℕ) → InList list nonzeros row column → TextGives text (row + 1) (column + 1)
     line-of row column l =
         let a = cell-of table (l .nonzero) (l .numbered) in
-        let w = all .noted-all .from-line (a .0) (a .2) in
-        let f = form-of (w .0) (w .2) in
-        let i = entryBelow text (w .0) .first in
-        let j = entryBelow text (w .0) .second in
-        let at-row = cell-row (i - 1) (j - 1) (omega (arith, f .column-from, f .column-to)) in
-        let at-column = cell-column (i - 1) (j - 1) (omega (arith, f .column-from, f .column-to)) in
-        record {
-          line = w .0;
-          gives =
-              record {
-                entry = w .2;
-                row-is =
-                    omega (arith, row-is table gives (l .nonzero) (l .numbered), l .row-is, at-row, ap (λ p. p / 120) (w .3), f .row-from);
-                column-is =
-                    omega
-                    (arith, column-is table gives (l .nonzero) (l .numbered), l .column-is, at-column, ap (λ p. p % 120) (w .3), f .column-from);
-              };
-        }
+        let at-row : a .0 / 120 + 1 ≡ row + 1 = omega (arith, row-is table gives (l .nonzero) (l .numbered), l .row-is) in
+        let at-column : a .0 % 120 + 1 ≡ column + 1 = omega (arith, column-is table gives (l .nonzero) (l .numbered), l .column-is) in
+        rw (sym at-row, sym at-column) (given-says (a .0) (a .2))
 
     -- from a line to the list
-    nonzero-of : (row column : ℕ) → TextGives text (row + 1) (column + 1) → InList list (h .nonzeros) row column
+    nonzero-of : (row column : ℕ) → column < 120 → TextGives text (row + 1) (column + 1) → InList list nonzeros row column
     unfolding rowIn columnIn
-    nonzero-of row column t =
-        let k = t .line in
-        let g = t .gives in
-        let f = form-of k (g .entry) in
+    nonzero-of row column small t =
         let p = 120 * row + column in
-        let given = cell-given k row column g in
-        let small : column < 120 = omega (arith, f .column-to, g .column-is) in
-        let inside : p < 120 * h .m = omega (arith, f .row-to, g .row-is) in
+        let given = cell-given (t .line) row column (t .gives) in
+        let inside = cell-before (table .inside p given) in
         record {
           nonzero = count (isGiven cells) p;
           numbered = omega (arith, count-later (isGiven cells) p (120 * h .m) given inside, table .total);
@@ -94,16 +85,14 @@ module _
         }
 
     part-of :
-        {parts : List ℕ} → GivesParts cells (120 * h .m) parts → (t k : ℕ) → t < h .nonzeros →
+        {parts : List ℕ} → GivesParts cells (120 * h .m) parts → (t k : ℕ) → t < nonzeros →
         LineGives text k (rowIn list t + 1) (columnIn list t + 1) → entryBelow text k .third ≡ getD parts t 0 + 1
     part-of {parts} gives-parts t k l g =
         let a = cell-of table t l in
         let p = a .0 in
         let f = form-of k (g .entry) in
-        let whole = div-add-mod' p 120 in
-        let here : cellBelow text k ≡ p =
-        line-cell k (rowIn list t) (columnIn list t) g ∙ omega (arith, row-is table gives t l, column-is table gives t l) in
-        let mark = all .noted-all .marked k (line-before k (g .entry)) (g .entry) in
+        let here : 120 * rowIn list t + columnIn list t ≡ p = omega (arith, row-is table gives t l, column-is table gives t l, div-add-mod' p 120) in
+        let mark = whole .noted-all .marked k _ (line-before k (g .entry)) (g .entry) (line-own k (rowIn list t) (columnIn list t) g) in
         omega (
           arith,
           mark,
@@ -114,11 +103,21 @@ module _
           f .part-from,
         )
 
+  -- a line gives a column of the matrix
+  column-small : (row column : ℕ) → TextGives text row (column + 1) → column < 120
+  column-small row column t =
+      let g = t .gives in
+      let f = form-of (t .line) (g .entry) in
+      ⊎-elim
+      (λ w. omega (arith, w .1, f .column-to))
+      (λ w. omega (arith, w .2, f .row-to))
+      (g .stands)
+
   -- two lines that give the same nonzero are one
   same-line : (j k row column : ℕ) → LineGives text j row column → LineGives text k row column → j ≡ k
   same-line j k row column a b =
-      let same : cellBelow text j ≡ cellBelow text k = rw (a .row-is, a .column-is, b .row-is, b .column-is) in
-      let once = all .noted-all .once in
+      let same = same-cell text rows columns j k row column (form-of j (a .entry)) (form-of k (b .entry)) (a .stands) (b .stands) in
+      let once = whole .noted-all .once in
       by-test
       (eqb j k)
       (λ z. eqb-true j k z)
@@ -129,33 +128,52 @@ module _
       (λ y. let le = ltb-false j k y in
       absurd (once k j (omega arith) (line-before j (a .entry)) (b .entry) (a .entry) (sym same))))
 
-  entries-number : count (isEntry text) (length text) ≡ h .nonzeros
-  entries-number = entries-all text (all .lines) (all .over) ∙ all .number
+  entries-number : count (isEntry text) (length text) ≡ h .entries
+  entries-number = entries-all text (whole .lines) (whole .over) (isEntry text) (λ k e. e) ∙ whole .number
+
+-- of a text that is read, a cell is given exactly if a line gives it
+module _ (text list parts : List ℕ) {m n nonzeros : ℕ} {integer : Bool} (e : readCall text list parts ≡ read-answer.Read m n nonzeros integer) where
+  abbrev v : readVerdict text list parts ≡ Accepted
+  v = answered text list parts e .accepted
+
+  pub cell-says : (p : ℕ) → isGiven (cellsOf text) p ≡ true → TextGives text (p / 120 + 1) (p % 120 + 1)
+  cell-says p g = given-says text (lines text list parts v .0) (lines text list parts v .1) (all text list parts v) (entered text list parts v) p g
+
+  pub says-cell : (p : ℕ) → TextGives text (p / 120 + 1) (p % 120 + 1) → isGiven (cellsOf text) p ≡ true
+  says-cell p t =
+      let whole : p ≡ 120 * (p / 120) + p % 120 = omega (arith, div-add-mod' p 120) in
+      ap (isGiven (cellsOf text)) whole
+      ∙ cell-given text (lines text list parts v .0) (lines text list parts v .1) (all text list parts v) (entered text list parts v) (t .line) (p / 120) (p % 120) (t .gives)
 
 -- what a text that is read says
 pub text-says :
     (text list parts : List ℕ) (m n nonzeros : ℕ) (integer : Bool) → readCall text list parts ≡ read-answer.Read m n nonzeros integer →
     TextSays text (readList text list parts) (readParts text list parts) m n nonzeros integer
-unfolding readCall
 text-says text list parts m n nonzeros integer e =
-    let a = answered (readVerdict text list parts) (headerOf text) m n nonzeros integer e in
-    let s = sizes text list parts (a .accepted) in
-    let h = headerOf text in
-    let columns = columns-range (h .m) (h .n) (h .nonzeros) s .1 in
-    let all = all-noted text (rows-range (h .m) (h .n) (h .nonzeros) s .1) columns (below-fine text list parts (a .accepted)) in
-    let table = entered text list parts (a .accepted) in
-    let gives = gives-list text list parts (a .accepted) in
+    let a = answered text list parts e in
+    let v = a .accepted in
+    let rows = lines text list parts v .0 in
+    let columns = lines text list parts v .1 in
+    let whole = all text list parts v in
+    let table = entered text list parts v in
+    let gives = gives-list text list parts v in
     rw
     (sym (a .nonzeros-are))
     (record {
       m-is = a .m-is;
       n-is = a .n-is;
-      nonzeros-are = refl;
+      square = λ s. sym (a .m-is) ∙ square text list parts v s ∙ a .n-is;
       integer-is = a .integer-is;
-      in-form = form-of text columns all table;
+      in-form = form-of text rows columns whole table;
       among = entry-among text;
-      number = entries-number text columns all table;
-      once = same-line text columns all table;
-      list-says = λ row column. (line-of text columns all table gives row column, nonzero-of text columns all table gives row column);
-      parts-say = λ i. part-of text columns all table gives (gives-parts text list parts (a .accepted) (a .integer-is ∙ i));
+      entries-are = entries-number text rows columns whole table;
+      number = general-number text list parts v;
+      opened-number = symmetric-number text list parts v;
+      once = same-line text rows columns whole table;
+      list-says =
+          λ row column. (
+            line-of text rows columns whole table gives row column,
+            λ t. nonzero-of text rows columns whole table gives row column (column-small text rows columns whole table (row + 1) column t) t,
+          );
+      parts-say = λ i. part-of text rows columns whole table gives (gives-parts text list parts v (a .integer-is ∙ i));
     })

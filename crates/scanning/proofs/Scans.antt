@@ -14,11 +14,9 @@ use Rattle.counting.specs.Tests.{_and_, _or_}
 use Rattle.counting.proofs.Joined.{by-test, and-left, and-right, and-intro, and-passed, and-fails-left, and-fails-right, pick-true, pick-false}
 use Rattle.scanning.specs.declared.Stretch.{Stretch}
 use Rattle.scanning.specs.declared.Stretch.the-variants.{Line, Digits}
-use Rattle.scanning.specs.declared.Number.{Number}
-use Rattle.scanning.specs.declared.Numbers.{Numbers}
 use Rattle.scanning.specs.Classes.{between, digitOf}
 use Rattle.scanning.specs.Lines.{past, stretchesAt, stretchEnd, lineStop, hasReturn, lineEnd, lineNext, emptyLine, isComment, passedOver, skipped, sizeLineAt}
-use Rattle.scanning.specs.Words.{spells, sameWord, isNumber, valueOf, numberValue, numberAt, endsAt, threeAt, twoAt, numbersAt}
+use Rattle.scanning.specs.Words.{spells, sameWord, isNumber, valueOf, numberValue}
 
 -- a number between two others passes the test, any other fails it
 pub between-in : (low high b : ℕ) → low ≤ b → b ≤ high → between low high b ≡ true
@@ -306,24 +304,3 @@ pub skip-falls :
 skip-falls text at next h e =
     let b = skipped-below text at h in
     omega (arith, next-after text at b)
-
--- lines of three numbers and of two
-module _
-    (text : List ℕ) (at end : ℕ) (three : Bool) (a b : Number) (two last : Bool)
-    (ea : a ≡ numberAt text at end) (eb : b ≡ numberAt text (a .stop) end) (et : two ≡ (a .fine and b .fine)) where
-  pub numbers-three :
-      (c : Number) (more fine : Bool) → three ≡ true → c ≡ numberAt text (b .stop) end →
-      last ≡ endsAt text (c .stop) end → more ≡ (c .fine and last) → fine ≡ (two and more) →
-      _≡_ {A = Numbers} (record { fine = fine; first = a .value; second = b .value; third = c .value }) (numbersAt text at end three)
-  unfolding numbersAt threeAt
-  numbers-three c more fine h ec el em ef =
-      let e : _≡_ {A = Numbers} (record { fine = fine; first = a .value; second = b .value; third = c .value }) (threeAt text at end) = cc in
-      e ∙ sym (pick-true (threeAt text at end) (twoAt text at end) h)
-
-  pub numbers-two :
-      (fine : Bool) → three ≡ false → last ≡ endsAt text (b .stop) end → fine ≡ (two and last) →
-      _≡_ {A = Numbers} (record { fine = fine; first = a .value; second = b .value; third = 1 }) (numbersAt text at end three)
-  unfolding numbersAt twoAt
-  numbers-two fine h el ef =
-      let e : _≡_ {A = Numbers} (record { fine = fine; first = a .value; second = b .value; third = 1 }) (twoAt text at end) = cc in
-      e ∙ sym (pick-false (threeAt text at end) (twoAt text at end) h)

@@ -1,4 +1,6 @@
 pub mod Classes
 pub mod Lines
+pub mod Reals
 pub mod Words
 pub mod Checks
+pub mod Samples

@@ -1,17 +1,20 @@
--- Document 01, 'Texts': words, numbers, and lines of numbers.
+-- Document 01, 'Texts': words, numbers, and lines of numbers; request 1 of document 02: lines with a real value.
 -- Assumes nothing.
-use mathlib.Core.Bool.{Bool}
+use mathlib.Core.Bool.{Bool, true, false}
 use mathlib.Core.List.{List}
 use Prim.Native.Nat.{ℕ, zero, suc, _+_, _-_, _*_}
 use lib.Dec.{eqb, ltb, leb}
 use lib.ListN.{length, getD}
 use Rattle.counting.specs.Tests.{_and_, pick}
 use Rattle.scanning.specs.declared.Stretch.the-variants.{Blanks, Nonblanks, Digits}
+use Rattle.scanning.specs.declared.Field.{Field}
+use Rattle.scanning.specs.declared.Field.the-variants.{Pattern, Integer, Real}
 use Rattle.scanning.specs.declared.Span.{Span}
 use Rattle.scanning.specs.declared.Number.{Number}
 use Rattle.scanning.specs.declared.Numbers.{Numbers}
 use Rattle.scanning.specs.Classes.{cased, digitOf}
 use Rattle.scanning.specs.Lines.{past, stretchEnd}
+use Rattle.scanning.specs.Reals.{isReal}
 
 -- the next word from `at` on, in a line that ends at `end`: blanks stand between words
 unfoldable pub wordAt : List ℕ → ℕ → ℕ → Span
@@ -56,12 +59,20 @@ numberAt text at end =
 unfoldable pub endsAt : List ℕ → ℕ → ℕ → Bool
 endsAt text at end = eqb (stretchEnd Blanks text at end) end
 
--- a line of three numbers
-unfoldable pub threeAt : List ℕ → ℕ → ℕ → Numbers
-threeAt text at end =
+-- what stands after i and j: nothing for pattern, p for integer, a real value for real, which is skipped; without p it counts as 1
+abbrev pub thirdAt : Field → List ℕ → ℕ → ℕ → Number
+thirdAt Pattern text at end = record { fine = true; value = 1; stop = at }
+thirdAt Integer text at end = numberAt text at end
+thirdAt Real text at end =
+    let word = wordAt text at end in
+    record { fine = isReal text (word .from) (word .stop); value = 1; stop = word .stop }
+
+-- "i j", "i j p" or "i j v", and no further word
+unfoldable pub numbersAt : List ℕ → ℕ → ℕ → Field → Numbers
+numbersAt text at end field =
     let a = numberAt text at end in
     let b = numberAt text (a .stop) end in
-    let c = numberAt text (b .stop) end in
+    let c = thirdAt field text (b .stop) end in
     record {
       fine = (a .fine and b .fine) and (c .fine and endsAt text (c .stop) end);
       first = a .value;
@@ -69,18 +80,8 @@ threeAt text at end =
       third = c .value;
     }
 
--- a line of two numbers; the third is 1
-unfoldable pub twoAt : List ℕ → ℕ → ℕ → Numbers
-twoAt text at end =
-    let a = numberAt text at end in
-    let b = numberAt text (a .stop) end in
-    record {
-      fine = (a .fine and b .fine) and endsAt text (b .stop) end;
-      first = a .value;
-      second = b .value;
-      third = 1;
-    }
-
--- "i j p", or "i j"
-unfoldable pub numbersAt : List ℕ → ℕ → ℕ → Bool → Numbers
-numbersAt text at end three = pick three (threeAt text at end) (twoAt text at end)
+-- F is integer: its entries have parts
+abbrev pub isInteger : Field → Bool
+isInteger Pattern = false
+isInteger Integer = true
+isInteger Real = false

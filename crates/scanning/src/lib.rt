@@ -2,6 +2,7 @@
 
 pub mod classes;
 pub mod lines;
+pub mod reals;
 pub mod tests;
 pub mod words;
 
@@ -23,6 +24,13 @@ pub enum Stretch {
     Digits,
 }
 
+// The field of a text: what its entries have beside row and column, nothing, a part or a real value.
+pub enum Field {
+    Pattern,
+    Integer,
+    Real,
+}
+
 // The next word of a line: where it starts and where it stops.
 pub struct Span {
     pub from: usize,
@@ -36,7 +44,7 @@ pub struct Number {
     pub stop: usize,
 }
 
-// The numbers of a line, two or three.
+// The numbers of a line; where it has no third number, that is 1.
 pub struct Numbers {
     pub fine: bool,
     pub first: u32,

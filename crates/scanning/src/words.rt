@@ -1,4 +1,5 @@
 // Words and numbers of a line.
+use crate::Field;
 use crate::Number;
 use crate::Numbers;
 use crate::Span;
@@ -6,6 +7,7 @@ use crate::Stretch;
 use crate::classes::digit_of;
 use crate::classes::in_case;
 use crate::lines::stretch_end;
+use crate::reals::is_real;
 use counting::joining::both_of;
 use pattern::reading::byte_at;
 use pattern::reading::less;
@@ -13,7 +15,7 @@ ghost use mathlib.Core.Path.{_≡_};
 ghost use lib.Dec.{eqb};
 ghost use lib.ListN.{getD};
 ghost use Rattle.scanning.specs.Classes.{cased};
-ghost use Rattle.scanning.specs.Words.{wordAt, sameWord, isNumber, numberValue, numberAt, endsAt, numbersAt};
+ghost use Rattle.scanning.specs.Words.{wordAt, sameWord, isNumber, numberValue, numberAt, endsAt, thirdAt, numbersAt, isInteger};
 
 // The next word of a line that ends at `end`.
 pub fn word_at(text: &[u8], at: usize, end: usize) -> Span
@@ -103,29 +105,53 @@ pub fn ends_at(text: &[u8], at: usize, end: usize) -> bool
     stretch_end(text, Stretch::Blanks, at, end) == end
 }
 
-// The numbers of a line, three or two.
-pub fn numbers_at(text: &[u8], at: usize, end: usize, three: bool) -> Numbers
-    ensures { λ r. ⌜ r ≡ numbersAt (now (text .entry)) at end three ⌝ }
+// What stands after row and column: nothing, a part or a real value; where it is no part it counts as 1.
+fn third_at(text: &[u8], at: usize, end: usize, field: Field) -> Number
+    ensures { λ r. ⌜ r ≡ thirdAt field (now (text .entry)) at end ⌝ }
+{
+    match field {
+        Field::Pattern => Number {
+            fine: true,
+            value: 1,
+            stop: at,
+        },
+        Field::Integer => number_at(text, at, end),
+        Field::Real => {
+            let word = word_at(text, at, end);
+            Number {
+                fine: is_real(text, word.from, word.stop),
+                value: 1,
+                stop: word.stop,
+            }
+        }
+    }
+}
+
+// The numbers of a line, as the field has them.
+pub fn numbers_at(text: &[u8], at: usize, end: usize, field: Field) -> Numbers
+    ensures { λ r. ⌜ r ≡ numbersAt (now (text .entry)) at end field ⌝ }
 {
     let a = number_at(text, at, end);
     let b = number_at(text, a.stop, end);
-    let c = number_at(text, b.stop, end);
+    let c = third_at(text, b.stop, end, field);
+    let last = ends_at(text, c.stop, end);
     let two = both_of(a.fine, b.fine);
-    if three {
-        let last = ends_at(text, c.stop, end);
-        let more = both_of(c.fine, last);
-        return Numbers {
-            fine: both_of(two, more),
-            first: a.value,
-            second: b.value,
-            third: c.value,
-        };
-    }
-    let last = ends_at(text, b.stop, end);
+    let more = both_of(c.fine, last);
     Numbers {
-        fine: both_of(two, last),
+        fine: both_of(two, more),
         first: a.value,
         second: b.value,
-        third: 1,
+        third: c.value,
+    }
+}
+
+// The field's entries have parts.
+pub fn is_integer(field: Field) -> bool
+    ensures { λ r. ⌜ r ≡ isInteger field ⌝ }
+{
+    match field {
+        Field::Pattern => false,
+        Field::Integer => true,
+        Field::Real => false,
     }
 }

@@ -25,7 +25,7 @@ fn say_answer(input: &[u8]) {
 
 // An input written out.
 pub(crate) fn answer_case(cases: &[u8], at: usize) -> usize {
-    let mut page = [0u8; 256];
+    let mut page = [0u8; 8192];
     let input = field_at(cases, say_name(cases, at), Kind::Text, &mut page);
     say_answer(first(&page, input.value as usize));
     input.next

@@ -1,12 +1,12 @@
--- Document 01, 'Texts' and 'Refusal table': the entries in text order, each 3, 5, 8, 6, with 7 for one too many or missing.
+-- Document 01, 'Texts' and 'Refusal table', and request 1 of document 02: the entries in text order, each 3, 5, 16 for symmetric, 8, 6, with 7 for one too many or missing.
 -- Assumes nothing.
 use mathlib.Core.Bool.{Bool, false, not}
 use mathlib.Core.List.{List}
 use Prim.Native.Nat.{ℕ, zero, suc, _+_, _-_, _*_}
 use lib.Dec.{eqb, ltb, leb}
 use lib.ListN.{length, getD, set, replicate}
-use Rattle.counting.specs.Tests.{_or_, pick, bit}
-use Rattle.model.specs.declared.Word.the-variants.{EntryForm, OffMatrix, Repeated, Count, BadPart}
+use Rattle.counting.specs.Tests.{_and_, _or_, pick, bit}
+use Rattle.model.specs.declared.Word.the-variants.{EntryForm, OffMatrix, Repeated, Count, BadPart, AboveDiagonal}
 use Rattle.model.specs.declared.Verdict.{Verdict}
 use Rattle.model.specs.declared.Verdict.the-variants.{Accepted, Refused}
 use Rattle.model.specs.Limits.{lineLimit}
@@ -18,9 +18,9 @@ use Rattle.scanning.specs.declared.Numbers.{Numbers}
 use Rattle.scanning.specs.Lines.{lineEnd, lineNext, emptyLine}
 use Rattle.scanning.specs.Words.{numbersAt}
 
--- the entry of a line, "i j" or "i j p" for integer
+-- the entry of a line: "i j", "i j p" for integer, or "i j v" for real
 unfoldable pub entryAt : List ℕ → Header → ℕ → Numbers
-entryAt text h at = numbersAt text at (lineEnd text at) (h .integer)
+entryAt text h at = numbersAt text at (lineEnd text at) (h .field)
 
 -- the cell of row i and column j, counted from 1, in a table with lineLimit cells for each row
 unfoldable pub cellOf : ℕ → ℕ → ℕ
@@ -38,31 +38,45 @@ isGiven cells p = not (eqb (getD cells p 0) 0)
 unfoldable pub cellMark : ℕ → ℕ
 cellMark p = pick (eqb p 1) 1 2
 
--- 3, 5, 8, 6: the checks of an entry
+-- the cell of an entry's other nonzero: for symmetric that of row j and column i, else its own again
+unfoldable pub mirrorOf : Header → Numbers → ℕ
+mirrorOf h e = pick (h .symmetric) (cellOf (e .second) (e .first)) (cellOf (e .first) (e .second))
+
+-- above the diagonal: symmetric, with i less than j
+unfoldable pub aboveDiagonal : Header → Numbers → Bool
+aboveDiagonal h e = h .symmetric and ltb (e .first) (e .second)
+
+-- 3, 5, 16 for symmetric, 8, 6: the checks of an entry
 unfoldable pub entryCheck : Header → Numbers → ℕ → List ℕ → Verdict
 entryCheck h e place cells =
     refuse (not (e .fine)) EntryForm place
     then refuse (outside (h .m) (e .first) or outside (h .n) (e .second)) OffMatrix place
+    then refuse (aboveDiagonal h e) AboveDiagonal place
     then refuse (outside 2 (e .third)) BadPart place
     then refuse (isGiven cells (cellOf (e .first) (e .second))) Repeated place
 
--- the checks of a line after the size line, with so many entries before it: an empty line is skipped, a line past the Nth entry is 7
+-- the checks of a line after the size line, with so many entries before it: an empty line is skipped, a line past the last entry is 7
 unfoldable pub lineVerdict : List ℕ → Header → ℕ → ℕ → List ℕ → Verdict
 lineVerdict text h at count cells =
     pick
     (emptyLine text at)
     Accepted
-    (refuse (leb (h .nonzeros) count) Count at then entryCheck h (entryAt text h at) at cells)
+    (refuse (leb (h .entries) count) Count at then entryCheck h (entryAt text h at) at cells)
+
+-- the cells after an entry: it stands for its own nonzero and the other, both in its part
+unfoldable pub opened : Header → Numbers → List ℕ → List ℕ
+opened h e cells =
+    let mark = cellMark (e .third) in
+    set (set cells (cellOf (e .first) (e .second)) mark) (mirrorOf h e) mark
 
 -- the cells after a line
 unfoldable pub noted : List ℕ → Header → ℕ → List ℕ → List ℕ
 noted text h at cells =
-    let e = entryAt text h at in
-    pick (emptyLine text at) cells (set cells (cellOf (e .first) (e .second)) (cellMark (e .third)))
+    pick (emptyLine text at) cells (opened h (entryAt text h at) cells)
 
 -- 7: an entry missing
 unfoldable pub endVerdict : ℕ → Header → ℕ → Verdict
-endVerdict len h count = refuse (ltb count (h .nonzeros)) Count len
+endVerdict len h count = refuse (ltb count (h .entries)) Count len
 
 -- what reading the entries gives: a verdict, and the cells of the entries accepted
 pub record Entries : Type 0 where

@@ -1,4 +1,6 @@
 pub mod Header
 pub mod Entries
 pub mod Reading
+pub mod Computing
 pub mod Samples
+pub mod SymmetricSamples

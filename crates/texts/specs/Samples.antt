@@ -4,19 +4,12 @@ use mathlib.Core.Bool.{true, false}
 use mathlib.Core.List.{List, [], _∷_, _++_}
 use mathlib.Core.Path.{_≡_, refl}
 use Prim.Native.Nat.{ℕ}
-use Rattle.counting.specs.Tests.{_and_, _or_, pick, bit}
-use Rattle.counting.specs.Sums.{sum}
+use Rattle.counting.specs.Tests.{bit}
 use Rattle.model.specs.declared.Word.the-variants.{Banner, SizeLine, EntryForm, TooBig, OffMatrix, Repeated, Count, BadPart, ShortBuffer}
-use Rattle.model.specs.Refusal.{given, refusal, refuse, _then_}
-use Rattle.model.specs.Calls.{outside, sizesVerdict}
-use Rattle.scanning.specs.Classes.{between, classOf, smallLetter, cased, digitOf}
-use Rattle.scanning.specs.Checks.{moved}
-use Rattle.scanning.specs.Lines.{past, stretchesAt, stretchEnd, lineStop, hasReturn, lineEnd, lineNext, emptyLine, isComment, skipped, sizeLineAt}
-use Rattle.scanning.specs.Words.{wordAt, spells, sameWord, isNumber, valueOf, numberValue, numberAt, endsAt, threeAt, twoAt, numbersAt}
+use Rattle.model.specs.Refusal.{given, refusal}
 use Rattle.texts.specs.declared.ReadAnswer.the-variants as read-answer
-use Rattle.texts.specs.Header.{bannerAt, headerOf, short, headVerdict}
-use Rattle.texts.specs.Entries.{entryAt, cellOf, noCells, isGiven, cellMark, entryCheck, lineVerdict, noted, endVerdict, after, entriesFrom}
-use Rattle.texts.specs.Reading.{listCell, partCell, listed, parted, givenParts, entriesBelow, answerRead, outputAfter, textVerdict, readVerdict, readCall, readList, readParts, readReply}
+use Rattle.texts.specs.Reading.{readCall, readList, readParts, readReply}
+use Rattle.texts.specs.Computing.{computing}
 
 -- %%MatrixMarket matrix coordinate pattern general, LF
 abbrev pattern-line : List ℕ
@@ -40,27 +33,27 @@ room = 9 ∷ 9 ∷ 9 ∷ 9 ∷ 9 ∷ 9 ∷ 9 ∷ 9 ∷ []
 
 -- sizes and format
 diagonal-read : readCall (pattern-line ++ diagonal) room [] ≡ read-answer.Read 2 2 2 false
-unfolding readCall readList readParts readVerdict textVerdict entriesBelow answerRead outputAfter givenParts listed parted listCell partCell entriesFrom after endVerdict noted lineVerdict entryCheck cellMark isGiven noCells cellOf entryAt headVerdict short headerOf bannerAt moved numbersAt threeAt twoAt endsAt numberAt numberValue valueOf isNumber sameWord spells wordAt sizeLineAt skipped isComment emptyLine lineNext lineEnd hasReturn lineStop stretchEnd stretchesAt past digitOf cased smallLetter classOf between refuse _then_ sizesVerdict outside sum _and_ _or_ pick bit
+unfolding computing
 diagonal-read = refl
 
 -- the list is sorted by row and then column, and bytes past it stay
 diagonal-list : readList (pattern-line ++ diagonal) room [] ≡ 0 ∷ 0 ∷ 1 ∷ 1 ∷ 9 ∷ 9 ∷ 9 ∷ 9 ∷ []
-unfolding readCall readList readParts readVerdict textVerdict entriesBelow answerRead outputAfter givenParts listed parted listCell partCell entriesFrom after endVerdict noted lineVerdict entryCheck cellMark isGiven noCells cellOf entryAt headVerdict short headerOf bannerAt moved numbersAt threeAt twoAt endsAt numberAt numberValue valueOf isNumber sameWord spells wordAt sizeLineAt skipped isComment emptyLine lineNext lineEnd hasReturn lineStop stretchEnd stretchesAt past digitOf cased smallLetter classOf between refuse _then_ sizesVerdict outside sum _and_ _or_ pick bit
+unfolding computing
 diagonal-list = refl
 
 -- the parts of a pattern stay
 diagonal-parts : readParts (pattern-line ++ diagonal) room room ≡ room
-unfolding readCall readList readParts readVerdict textVerdict entriesBelow answerRead outputAfter givenParts listed parted listCell partCell entriesFrom after endVerdict noted lineVerdict entryCheck cellMark isGiven noCells cellOf entryAt headVerdict short headerOf bannerAt moved numbersAt threeAt twoAt endsAt numberAt numberValue valueOf isNumber sameWord spells wordAt sizeLineAt skipped isComment emptyLine lineNext lineEnd hasReturn lineStop stretchEnd stretchesAt past digitOf cased smallLetter classOf between refuse _then_ sizesVerdict outside sum _and_ _or_ pick bit
+unfolding computing
 diagonal-parts = refl
 
 -- any letter case, comments, empty lines, CR before LF
 commented-read : readCall (integer-line ++ commented) room room ≡ read-answer.Read 2 2 2 true
-unfolding readCall readList readParts readVerdict textVerdict entriesBelow answerRead outputAfter givenParts listed parted listCell partCell entriesFrom after endVerdict noted lineVerdict entryCheck cellMark isGiven noCells cellOf entryAt headVerdict short headerOf bannerAt moved numbersAt threeAt twoAt endsAt numberAt numberValue valueOf isNumber sameWord spells wordAt sizeLineAt skipped isComment emptyLine lineNext lineEnd hasReturn lineStop stretchEnd stretchesAt past digitOf cased smallLetter classOf between refuse _then_ sizesVerdict outside sum _and_ _or_ pick bit
+unfolding computing
 commented-read = refl
 
 -- the parts in the list's order
 commented-parts : readParts (integer-line ++ commented) room room ≡ 0 ∷ 1 ∷ 9 ∷ 9 ∷ 9 ∷ 9 ∷ 9 ∷ 9 ∷ []
-unfolding readCall readList readParts readVerdict textVerdict entriesBelow answerRead outputAfter givenParts listed parted listCell partCell entriesFrom after endVerdict noted lineVerdict entryCheck cellMark isGiven noCells cellOf entryAt headVerdict short headerOf bannerAt moved numbersAt threeAt twoAt endsAt numberAt numberValue valueOf isNumber sameWord spells wordAt sizeLineAt skipped isComment emptyLine lineNext lineEnd hasReturn lineStop stretchEnd stretchesAt past digitOf cased smallLetter classOf between refuse _then_ sizesVerdict outside sum _and_ _or_ pick bit
+unfolding computing
 commented-parts = refl
 
 -- nothing
@@ -69,7 +62,7 @@ no-text-text = []
 
 -- 1: an empty text
 no-text : readCall no-text-text room room ≡ read-answer.Refused Banner 0
-unfolding readCall readList readParts readVerdict textVerdict entriesBelow answerRead outputAfter givenParts listed parted listCell partCell entriesFrom after endVerdict noted lineVerdict entryCheck cellMark isGiven noCells cellOf entryAt headVerdict short headerOf bannerAt moved numbersAt threeAt twoAt endsAt numberAt numberValue valueOf isNumber sameWord spells wordAt sizeLineAt skipped isComment emptyLine lineNext lineEnd hasReturn lineStop stretchEnd stretchesAt past digitOf cased smallLetter classOf between refuse _then_ sizesVerdict outside sum _and_ _or_ pick bit
+unfolding computing
 no-text = refl
 
 -- %%matrixMarket matrix coordinate pattern general LF 1 1 0 LF
@@ -78,7 +71,7 @@ other-banner-text = 37 ∷ 37 ∷ 109 ∷ 97 ∷ 116 ∷ 114 ∷ 105 ∷ 120 ∷
 
 -- 1: a letter of the first word in another case
 other-banner : readCall other-banner-text room room ≡ read-answer.Refused Banner 0
-unfolding readCall readList readParts readVerdict textVerdict entriesBelow answerRead outputAfter givenParts listed parted listCell partCell entriesFrom after endVerdict noted lineVerdict entryCheck cellMark isGiven noCells cellOf entryAt headVerdict short headerOf bannerAt moved numbersAt threeAt twoAt endsAt numberAt numberValue valueOf isNumber sameWord spells wordAt sizeLineAt skipped isComment emptyLine lineNext lineEnd hasReturn lineStop stretchEnd stretchesAt past digitOf cased smallLetter classOf between refuse _then_ sizesVerdict outside sum _and_ _or_ pick bit
+unfolding computing
 other-banner = refl
 
 -- %%MatrixMarket matrix coordinate pattern general x LF 1 1 0 LF
@@ -87,7 +80,7 @@ further-word-text = 37 ∷ 37 ∷ 77 ∷ 97 ∷ 116 ∷ 114 ∷ 105 ∷ 120 ∷ 
 
 -- 1: a further word
 further-word : readCall further-word-text room room ≡ read-answer.Refused Banner 0
-unfolding readCall readList readParts readVerdict textVerdict entriesBelow answerRead outputAfter givenParts listed parted listCell partCell entriesFrom after endVerdict noted lineVerdict entryCheck cellMark isGiven noCells cellOf entryAt headVerdict short headerOf bannerAt moved numbersAt threeAt twoAt endsAt numberAt numberValue valueOf isNumber sameWord spells wordAt sizeLineAt skipped isComment emptyLine lineNext lineEnd hasReturn lineStop stretchEnd stretchesAt past digitOf cased smallLetter classOf between refuse _then_ sizesVerdict outside sum _and_ _or_ pick bit
+unfolding computing
 further-word = refl
 
 -- % only LF
@@ -96,7 +89,7 @@ no-size-line-text = 37 ∷ 32 ∷ 111 ∷ 110 ∷ 108 ∷ 121 ∷ 10 ∷ []
 
 -- 2: at the text's length
 no-size-line : readCall (pattern-line ++ no-size-line-text) room room ≡ read-answer.Refused SizeLine 56
-unfolding readCall readList readParts readVerdict textVerdict entriesBelow answerRead outputAfter givenParts listed parted listCell partCell entriesFrom after endVerdict noted lineVerdict entryCheck cellMark isGiven noCells cellOf entryAt headVerdict short headerOf bannerAt moved numbersAt threeAt twoAt endsAt numberAt numberValue valueOf isNumber sameWord spells wordAt sizeLineAt skipped isComment emptyLine lineNext lineEnd hasReturn lineStop stretchEnd stretchesAt past digitOf cased smallLetter classOf between refuse _then_ sizesVerdict outside sum _and_ _or_ pick bit
+unfolding computing
 no-size-line = refl
 
 -- % LF 1 1 0000000000 LF
@@ -105,7 +98,7 @@ ten-digits-text = 37 ∷ 10 ∷ 49 ∷ 32 ∷ 49 ∷ 32 ∷ 48 ∷ 48 ∷ 48 ∷
 
 -- 2: ten digits are no number
 ten-digits : readCall (pattern-line ++ ten-digits-text) room room ≡ read-answer.Refused SizeLine 51
-unfolding readCall readList readParts readVerdict textVerdict entriesBelow answerRead outputAfter givenParts listed parted listCell partCell entriesFrom after endVerdict noted lineVerdict entryCheck cellMark isGiven noCells cellOf entryAt headVerdict short headerOf bannerAt moved numbersAt threeAt twoAt endsAt numberAt numberValue valueOf isNumber sameWord spells wordAt sizeLineAt skipped isComment emptyLine lineNext lineEnd hasReturn lineStop stretchEnd stretchesAt past digitOf cased smallLetter classOf between refuse _then_ sizesVerdict outside sum _and_ _or_ pick bit
+unfolding computing
 ten-digits = refl
 
 -- % LF 1 1 0 LF
@@ -114,7 +107,7 @@ late-percent-text = 32 ∷ 37 ∷ 10 ∷ 49 ∷ 32 ∷ 49 ∷ 32 ∷ 48 ∷ 10 �
 
 -- 2: a comment starts with its percent sign
 late-percent : readCall (pattern-line ++ late-percent-text) room room ≡ read-answer.Refused SizeLine 49
-unfolding readCall readList readParts readVerdict textVerdict entriesBelow answerRead outputAfter givenParts listed parted listCell partCell entriesFrom after endVerdict noted lineVerdict entryCheck cellMark isGiven noCells cellOf entryAt headVerdict short headerOf bannerAt moved numbersAt threeAt twoAt endsAt numberAt numberValue valueOf isNumber sameWord spells wordAt sizeLineAt skipped isComment emptyLine lineNext lineEnd hasReturn lineStop stretchEnd stretchesAt past digitOf cased smallLetter classOf between refuse _then_ sizesVerdict outside sum _and_ _or_ pick bit
+unfolding computing
 late-percent = refl
 
 -- 121 1 0 LF
@@ -123,7 +116,7 @@ large-rows-text = 49 ∷ 50 ∷ 49 ∷ 32 ∷ 49 ∷ 32 ∷ 48 ∷ 10 ∷ []
 
 -- 4: at the size line
 large-rows : readCall (pattern-line ++ large-rows-text) room room ≡ read-answer.Refused TooBig 49
-unfolding readCall readList readParts readVerdict textVerdict entriesBelow answerRead outputAfter givenParts listed parted listCell partCell entriesFrom after endVerdict noted lineVerdict entryCheck cellMark isGiven noCells cellOf entryAt headVerdict short headerOf bannerAt moved numbersAt threeAt twoAt endsAt numberAt numberValue valueOf isNumber sameWord spells wordAt sizeLineAt skipped isComment emptyLine lineNext lineEnd hasReturn lineStop stretchEnd stretchesAt past digitOf cased smallLetter classOf between refuse _then_ sizesVerdict outside sum _and_ _or_ pick bit
+unfolding computing
 large-rows = refl
 
 -- 1 1 2 LF
@@ -132,7 +125,7 @@ many-text = 49 ∷ 32 ∷ 49 ∷ 32 ∷ 50 ∷ 10 ∷ []
 
 -- 4: more nonzeros than cells
 many : readCall (pattern-line ++ many-text) room room ≡ read-answer.Refused TooBig 49
-unfolding readCall readList readParts readVerdict textVerdict entriesBelow answerRead outputAfter givenParts listed parted listCell partCell entriesFrom after endVerdict noted lineVerdict entryCheck cellMark isGiven noCells cellOf entryAt headVerdict short headerOf bannerAt moved numbersAt threeAt twoAt endsAt numberAt numberValue valueOf isNumber sameWord spells wordAt sizeLineAt skipped isComment emptyLine lineNext lineEnd hasReturn lineStop stretchEnd stretchesAt past digitOf cased smallLetter classOf between refuse _then_ sizesVerdict outside sum _and_ _or_ pick bit
+unfolding computing
 many = refl
 
 -- 2 2 2 LF x
@@ -141,7 +134,7 @@ short-list-text = 50 ∷ 32 ∷ 50 ∷ 32 ∷ 50 ∷ 10 ∷ 120 ∷ []
 
 -- 9: before the entries
 short-list : readCall (pattern-line ++ short-list-text) (9 ∷ 9 ∷ 9 ∷ []) [] ≡ read-answer.Refused ShortBuffer 0
-unfolding readCall readList readParts readVerdict textVerdict entriesBelow answerRead outputAfter givenParts listed parted listCell partCell entriesFrom after endVerdict noted lineVerdict entryCheck cellMark isGiven noCells cellOf entryAt headVerdict short headerOf bannerAt moved numbersAt threeAt twoAt endsAt numberAt numberValue valueOf isNumber sameWord spells wordAt sizeLineAt skipped isComment emptyLine lineNext lineEnd hasReturn lineStop stretchEnd stretchesAt past digitOf cased smallLetter classOf between refuse _then_ sizesVerdict outside sum _and_ _or_ pick bit
+unfolding computing
 short-list = refl
 
 -- 1 1 1 LF  LF 1 1 1 LF
@@ -150,7 +143,7 @@ three-numbers-text = 49 ∷ 32 ∷ 49 ∷ 32 ∷ 49 ∷ 10 ∷ 10 ∷ 49 ∷ 32 
 
 -- 3: at the entry's line
 three-numbers : readCall (pattern-line ++ three-numbers-text) room room ≡ read-answer.Refused EntryForm 56
-unfolding readCall readList readParts readVerdict textVerdict entriesBelow answerRead outputAfter givenParts listed parted listCell partCell entriesFrom after endVerdict noted lineVerdict entryCheck cellMark isGiven noCells cellOf entryAt headVerdict short headerOf bannerAt moved numbersAt threeAt twoAt endsAt numberAt numberValue valueOf isNumber sameWord spells wordAt sizeLineAt skipped isComment emptyLine lineNext lineEnd hasReturn lineStop stretchEnd stretchesAt past digitOf cased smallLetter classOf between refuse _then_ sizesVerdict outside sum _and_ _or_ pick bit
+unfolding computing
 three-numbers = refl
 
 -- 1 1 1 LF 1 1 CR
@@ -159,7 +152,7 @@ bare-return-text = 49 ∷ 32 ∷ 49 ∷ 32 ∷ 49 ∷ 10 ∷ 49 ∷ 32 ∷ 49 �
 
 -- 3: a CR at the end of a text without LF stays
 bare-return : readCall (pattern-line ++ bare-return-text) room room ≡ read-answer.Refused EntryForm 55
-unfolding readCall readList readParts readVerdict textVerdict entriesBelow answerRead outputAfter givenParts listed parted listCell partCell entriesFrom after endVerdict noted lineVerdict entryCheck cellMark isGiven noCells cellOf entryAt headVerdict short headerOf bannerAt moved numbersAt threeAt twoAt endsAt numberAt numberValue valueOf isNumber sameWord spells wordAt sizeLineAt skipped isComment emptyLine lineNext lineEnd hasReturn lineStop stretchEnd stretchesAt past digitOf cased smallLetter classOf between refuse _then_ sizesVerdict outside sum _and_ _or_ pick bit
+unfolding computing
 bare-return = refl
 
 -- 1 1 1 LF 0 1 LF
@@ -168,7 +161,7 @@ row-zero-text = 49 ∷ 32 ∷ 49 ∷ 32 ∷ 49 ∷ 10 ∷ 48 ∷ 32 ∷ 49 ∷ 1
 
 -- 5: counted from 1
 row-zero : readCall (pattern-line ++ row-zero-text) room room ≡ read-answer.Refused OffMatrix 55
-unfolding readCall readList readParts readVerdict textVerdict entriesBelow answerRead outputAfter givenParts listed parted listCell partCell entriesFrom after endVerdict noted lineVerdict entryCheck cellMark isGiven noCells cellOf entryAt headVerdict short headerOf bannerAt moved numbersAt threeAt twoAt endsAt numberAt numberValue valueOf isNumber sameWord spells wordAt sizeLineAt skipped isComment emptyLine lineNext lineEnd hasReturn lineStop stretchEnd stretchesAt past digitOf cased smallLetter classOf between refuse _then_ sizesVerdict outside sum _and_ _or_ pick bit
+unfolding computing
 row-zero = refl
 
 -- 2 2 3 LF 1 2 LF 2 1 LF  1 2 LF
@@ -177,7 +170,7 @@ again-text = 50 ∷ 32 ∷ 50 ∷ 32 ∷ 51 ∷ 10 ∷ 49 ∷ 32 ∷ 50 ∷ 10 �
 
 -- 6: the nonzero was given before
 again : readCall (pattern-line ++ again-text) room room ≡ read-answer.Refused Repeated 63
-unfolding readCall readList readParts readVerdict textVerdict entriesBelow answerRead outputAfter givenParts listed parted listCell partCell entriesFrom after endVerdict noted lineVerdict entryCheck cellMark isGiven noCells cellOf entryAt headVerdict short headerOf bannerAt moved numbersAt threeAt twoAt endsAt numberAt numberValue valueOf isNumber sameWord spells wordAt sizeLineAt skipped isComment emptyLine lineNext lineEnd hasReturn lineStop stretchEnd stretchesAt past digitOf cased smallLetter classOf between refuse _then_ sizesVerdict outside sum _and_ _or_ pick bit
+unfolding computing
 again = refl
 
 -- 2 2 2 LF 1 2 LF
@@ -186,7 +179,7 @@ missing-text = 50 ∷ 32 ∷ 50 ∷ 32 ∷ 50 ∷ 10 ∷ 49 ∷ 32 ∷ 50 ∷ 10
 
 -- 7: at the text's length
 missing : readCall (pattern-line ++ missing-text) room room ≡ read-answer.Refused Count 59
-unfolding readCall readList readParts readVerdict textVerdict entriesBelow answerRead outputAfter givenParts listed parted listCell partCell entriesFrom after endVerdict noted lineVerdict entryCheck cellMark isGiven noCells cellOf entryAt headVerdict short headerOf bannerAt moved numbersAt threeAt twoAt endsAt numberAt numberValue valueOf isNumber sameWord spells wordAt sizeLineAt skipped isComment emptyLine lineNext lineEnd hasReturn lineStop stretchEnd stretchesAt past digitOf cased smallLetter classOf between refuse _then_ sizesVerdict outside sum _and_ _or_ pick bit
+unfolding computing
 missing = refl
 
 -- 1 1 0 LF  LF % LF
@@ -195,7 +188,7 @@ past-the-last-text = 49 ∷ 32 ∷ 49 ∷ 32 ∷ 48 ∷ 10 ∷ 10 ∷ 37 ∷ 10 
 
 -- 7: before the form of the line
 past-the-last : readCall (pattern-line ++ past-the-last-text) room room ≡ read-answer.Refused Count 56
-unfolding readCall readList readParts readVerdict textVerdict entriesBelow answerRead outputAfter givenParts listed parted listCell partCell entriesFrom after endVerdict noted lineVerdict entryCheck cellMark isGiven noCells cellOf entryAt headVerdict short headerOf bannerAt moved numbersAt threeAt twoAt endsAt numberAt numberValue valueOf isNumber sameWord spells wordAt sizeLineAt skipped isComment emptyLine lineNext lineEnd hasReturn lineStop stretchEnd stretchesAt past digitOf cased smallLetter classOf between refuse _then_ sizesVerdict outside sum _and_ _or_ pick bit
+unfolding computing
 past-the-last = refl
 
 -- 1 1 1 LF 1 1 3 LF
@@ -204,10 +197,10 @@ part-three-text = 49 ∷ 32 ∷ 49 ∷ 32 ∷ 49 ∷ 10 ∷ 49 ∷ 32 ∷ 49 ∷
 
 -- 8: p is 1 or 2
 part-three : readCall (integer-line ++ part-three-text) room room ≡ read-answer.Refused BadPart 58
-unfolding readCall readList readParts readVerdict textVerdict entriesBelow answerRead outputAfter givenParts listed parted listCell partCell entriesFrom after endVerdict noted lineVerdict entryCheck cellMark isGiven noCells cellOf entryAt headVerdict short headerOf bannerAt moved numbersAt threeAt twoAt endsAt numberAt numberValue valueOf isNumber sameWord spells wordAt sizeLineAt skipped isComment emptyLine lineNext lineEnd hasReturn lineStop stretchEnd stretchesAt past digitOf cased smallLetter classOf between refuse _then_ sizesVerdict outside sum _and_ _or_ pick bit
+unfolding computing
 part-three = refl
 
--- what a reading replies in numbers: m, n, N, and F as 0 or 1
+-- what a reading replies in numbers: m, n, N, and 1 for integer
 pattern-reply : readReply (read-answer.Read 2 3 4 false) ≡ record { number = 0; place = 0; values = 2 ∷ 3 ∷ 4 ∷ 0 ∷ [] }
 unfolding readReply given bit
 pattern-reply = refl

@@ -3,15 +3,20 @@ use crate::Header;
 use crate::ReadAnswer;
 use crate::entries::no_cells;
 use crate::entries::note_entries;
+use crate::giving::count_given;
 use crate::giving::give_list;
 use crate::giving::give_parts;
 use crate::head::head_verdict;
 use crate::head::header_of;
+use crate::head::room_verdict;
 use model::Verdict;
+use pattern::checks::and_then;
+use scanning::words::is_integer;
 ghost use mathlib.Core.Path.{_≡_};
 ghost use Prim.Native.Nat.{_*_, _≤_};
+ghost use lib.ListN.{length};
 ghost use Rattle.model.specs.Limits.{lineLimit};
-ghost use Rattle.texts.specs.Reading.{listed, givenParts, entriesBelow, answerRead, listGiven, partsGiven, readCall, readList, readParts, readReply, readReplies};
+ghost use Rattle.texts.specs.Reading.{listed, givenParts, entriesBelow, nonzerosIn, openedVerdict, belowVerdict, answerRead, listGiven, partsGiven, readCall, readList, readParts, readReply, readReplies};
 
 // The list as output, and for integer the parts.
 fn give(cells: &[u8], header: Header, list: &mut [u8], parts: &mut [u8])
@@ -21,35 +26,51 @@ fn give(cells: &[u8], header: Header, list: &mut [u8], parts: &mut [u8])
 {
     let m = header.m as u8;
     give_list(cells, m, list);
-    if header.integer {
+    let field = header.field;
+    if is_integer(field) {
         give_parts(cells, m, parts);
     }
 }
 
-// The entries read, and output where none is refused.
+// The check of a symmetric text after its last entry: 4 for the opened N, then 9.
+fn opened_verdict(header: Header, nonzeros: u32, list: usize, parts: usize) -> Verdict
+    ensures { λ r. ⌜ r ≡ openedVerdict header nonzeros list parts ⌝ }
+{
+    if header.symmetric {
+        room_verdict(header, nonzeros, list, parts)
+    } else {
+        Verdict::Accepted
+    }
+}
+
+// The entries read, and output where nothing is refused.
 fn read_entries(text: &[u8], header: Header, list: &mut [u8], parts: &mut [u8]) -> ReadAnswer
     requires { ⌜ header .m ≤ 120 ⌝ }
-    ensures answer { λ r. ⌜ r ≡ answerRead (entriesBelow (now (text .entry)) header .verdict) header ⌝ }
-    ensures list { λ r. ⌜ now (list .exit) ≡ listGiven (entriesBelow (now (text .entry)) header) header (now (list .entry)) ⌝ }
-    ensures parts { λ r. ⌜ now (parts .exit) ≡ partsGiven (entriesBelow (now (text .entry)) header) header (now (parts .entry)) ⌝ }
+    ensures answer { λ r. ⌜ r ≡ answerRead (belowVerdict (now (text .entry)) header (length (now (list .entry))) (length (now (parts .entry)))) header (nonzerosIn header (entriesBelow (now (text .entry)) header .cells)) ⌝ }
+    ensures list { λ r. ⌜ now (list .exit) ≡ listGiven (belowVerdict (now (text .entry)) header (length (now (list .entry))) (length (now (parts .entry)))) header (entriesBelow (now (text .entry)) header .cells) (now (list .entry)) ⌝ }
+    ensures parts { λ r. ⌜ now (parts .exit) ≡ partsGiven (belowVerdict (now (text .entry)) header (length (now (list .entry))) (length (now (parts .entry)))) header (entriesBelow (now (text .entry)) header .cells) (now (parts .entry)) ⌝ }
 {
     let mut cells = no_cells();
-    let verdict = note_entries(text, header, &mut cells);
+    let entries = note_entries(text, header, &mut cells);
+    let nonzeros = count_given(&cells, header.m as u8);
+    let opened = opened_verdict(header, nonzeros, list.len(), parts.len());
+    let verdict = and_then(entries, opened);
     match verdict {
         Verdict::Accepted => {
             give(&cells, header, list, parts);
+            let field = header.field;
             ReadAnswer::Read {
                 m: header.m as u64,
                 n: header.n as u64,
-                nonzeros: header.nonzeros as u64,
-                integer: header.integer,
+                nonzeros: nonzeros as u64,
+                integer: is_integer(field),
             }
         }
         Verdict::Refused(word, place) => ReadAnswer::Refused(word, place),
     }
 }
 
-// A text read: sizes and format as the answer, the list and for integer the parts as output, or a refusal and no output.
+// A text read: sizes and whether there are parts as the answer, the list and for integer the parts as output, or a refusal and no output.
 pub fn read(text: &[u8], list: &mut [u8], parts: &mut [u8]) -> ReadAnswer
     ensures answer { λ r. ⌜ r ≡ readCall (now (text .entry)) (now (list .entry)) (now (parts .entry)) ⌝ }
     ensures list { λ r. ⌜ now (list .exit) ≡ readList (now (text .entry)) (now (list .entry)) (now (parts .entry)) ⌝ }

@@ -1,5 +1,6 @@
 // Prints what reading and writing make of many texts, in the words of the list of expected answers. Its input has the cases.
 mod largest;
+mod opened;
 mod reading;
 mod saying;
 mod writings;
@@ -17,6 +18,7 @@ fn case_at(cases: &[u8], at: usize) -> usize {
         b'f' => reading::filled_case(cases, kind.next),
         b'w' => writings::write_case(cases, kind.next),
         b'b' => writings::back_case(cases, kind.next),
+        b'o' => opened::opened_case(cases, kind.next),
         b'l' => {
             largest::largest();
             kind.next
@@ -27,7 +29,7 @@ fn case_at(cases: &[u8], at: usize) -> usize {
 
 // Reads the cases and answers each of them in turn.
 fn main() {
-    let mut cases = [0u8; 16384];
+    let mut cases = [0u8; 65536];
     let len = io::read_full(STDIN_FILENO, &mut cases);
     let mut at: usize = 0;
     while at < len {

@@ -8,7 +8,7 @@ use testing::saying::say_which;
 use texts::ReadAnswer;
 use writing::WriteAnswer;
 
-// Sizes and format, or a refusal.
+// Sizes, and integer where there are parts or pattern where there are none, or a refusal.
 pub(crate) fn say_read(answer: ReadAnswer) {
     match answer {
         ReadAnswer::Read {

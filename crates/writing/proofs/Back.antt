@@ -13,9 +13,10 @@ use Rattle.counting.proofs.Joined.{by-test, and-left, and-right, and-intro, and
 use Rattle.scanning.specs.declared.Class.the-variants.{Blank, LineEnd}
 use Rattle.scanning.specs.declared.Stretch.{Stretch}
 use Rattle.scanning.specs.declared.Stretch.the-variants.{Line, Blanks, Nonblanks}
+use Rattle.scanning.specs.declared.Field.the-variants.{Integer}
 use Rattle.scanning.specs.Classes.{between, classOf, stretchesOver, isBlank}
 use Rattle.scanning.specs.Lines.{stretchesAt, stretchEnd, lineStop, hasReturn, lineEnd, lineNext}
-use Rattle.scanning.specs.Words.{numberAt, endsAt, threeAt}
+use Rattle.scanning.specs.Words.{numberAt, endsAt, numbersAt}
 use Rattle.scanning.proofs.Scans.{stretch-here, stretch-over, stretch-on, end-without, next-more}
 use Rattle.writing.specs.Written.{decimals, numberText, sizesText}
 use Rattle.writing.proofs.Held.{Holds, holds-left, holds-right, every, every-at, stretch-whole, digit-class, decimals-every, decimals-some, number-back}
@@ -224,8 +225,8 @@ module _
 
   -- the three numbers are read back
   pub three-back :
-      threeAt text at (lineOver at a b c) ≡ (record { fine = true; first = a; second = b; third = c })
-  unfolding threeAt _and_
+      numbersAt text at (lineOver at a b c) Integer ≡ (record { fine = true; first = a; second = b; third = c })
+  unfolding numbersAt _and_
   three-back = rw (first-number, second-number, third-number, line-over)
 
   -- and the line is not empty

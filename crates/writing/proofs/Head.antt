@@ -10,6 +10,7 @@ use lib.ListN.{length, getD, length-append}
 use borrow.Author.Tests.{not-true}
 use Rattle.counting.specs.Tests.{_and_, _or_}
 use Rattle.counting.proofs.Joined.{or-fails, and-fails-right}
+use Rattle.scanning.specs.declared.Field.the-variants.{Integer}
 use Rattle.scanning.specs.Classes.{classOf, isPercent}
 use Rattle.scanning.specs.Lines.{isComment, skipped, sizeLineAt}
 use Rattle.scanning.proofs.Scans.{size-here}
@@ -87,11 +88,12 @@ module _ (f : Figures) (m n nonzeros : ℕ) (entries : List ℕ) (sm : m < 10 ^ 
       headerOf (laidOut f m n nonzeros entries)
       ≡ (record {
         fine = true;
-        integer = true;
+        field = Integer;
+        symmetric = false;
         sized = true;
         m = m;
         n = n;
-        nonzeros = nonzeros;
+        entries = nonzeros;
         at = sizeAt f;
         next = lineOver (sizeAt f) m n nonzeros + 1;
       })

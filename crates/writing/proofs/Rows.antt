@@ -2,16 +2,16 @@
 -- Assumes nothing.
 use mathlib.Core.Bool.{true, false}
 use mathlib.Core.List.{List, [], _∷_, _++_}
-use mathlib.Core.Path.{_≡_, refl, _∙_, ap}
+use mathlib.Core.Path.{_≡_, _∙_, ap}
 use Prim.Native.Nat.{ℕ, _+_, _-_, _^_, _<_}
 use native.Mathlib.Omega.{arith}
 use lib.ListN.{length}
 use borrow.Author.Tests.{ne-eqb}
 use Rattle.counting.specs.Tests.{_or_}
-use Rattle.counting.proofs.Joined.{pick-true}
+use Rattle.scanning.specs.declared.Field.the-variants.{Integer}
 use Rattle.scanning.specs.declared.Stretch.the-variants.{Blanks}
 use Rattle.scanning.specs.Lines.{stretchEnd, lineEnd, lineNext, emptyLine}
-use Rattle.scanning.specs.Words.{threeAt, twoAt, numbersAt}
+use Rattle.scanning.specs.Words.{numbersAt}
 use Rattle.writing.specs.Written.{decimals, numberText, sizesText}
 use Rattle.writing.proofs.Held.{Holds, holds-left, holds-as, every, every-append, decimals-every}
 use Rattle.writing.proofs.Back.{plain, end-back, next-back, threeBody, sizes-body, lineOver, body-length, three-back, filled-back}
@@ -48,9 +48,5 @@ module _
       let same = ap (stretchEnd Blanks text at) row-end ∙ filled-back text at a b c held-body sa sb sc in
       ne-eqb (stretchEnd Blanks text at (lineEnd text at)) (lineEnd text at) (λ e. omega (arith, same, row-end))
 
-  pub row-numbers : numbersAt text at (lineEnd text at) true ≡ (record { fine = true; first = a; second = b; third = c })
-  unfolding numbersAt
-  row-numbers =
-      pick-true (threeAt text at (lineEnd text at)) (twoAt text at (lineEnd text at)) refl
-      ∙ ap (threeAt text at) row-end
-      ∙ three-back text at a b c held-body sa sb sc
+  pub row-numbers : numbersAt text at (lineEnd text at) Integer ≡ (record { fine = true; first = a; second = b; third = c })
+  row-numbers = ap (λ end. numbersAt text at end Integer) row-end ∙ three-back text at a b c held-body sa sb sc

@@ -10,12 +10,13 @@ use lib.ListN.{length, getD, length-append}
 use borrow.Author.Tests.{lt-ltb, ne-eqb}
 use Rattle.counting.specs.Tests.{_and_, _or_, pick}
 use Rattle.counting.proofs.Joined.{and-intro, or-right}
+use Rattle.scanning.specs.declared.Field.the-variants.{Integer}
 use Rattle.scanning.specs.declared.Stretch.the-variants.{Line}
 use Rattle.scanning.specs.Classes.{between, classOf, smallLetter, cased, stretchesOver, isPercent}
 use Rattle.scanning.specs.Lines.{past, stretchesAt, stretchEnd, lineEnd, lineNext, emptyLine, isComment, skipped, sizeLineAt}
 use Rattle.scanning.specs.Words.{wordAt, spells, sameWord, endsAt}
 use Rattle.scanning.proofs.Scans.{size-on}
-use Rattle.texts.specs.Header.{bannerAt}
+use Rattle.texts.specs.Header.{fieldAt, bannerAt}
 use Rattle.writing.specs.declared.Figures.{Figures}
 use Rattle.writing.specs.Written.{decimals, numberText, figureText, #volume, #cap, #tries, #floor, #stopped, #complete, #first-line, endingText, commentText}
 use Rattle.writing.proofs.Held.{Holds, holds-left, holds-as, holds-itself, every, every-append, digit-class, decimals-every}
@@ -41,9 +42,9 @@ module _ (rest : List ℕ) where
   pub first-next : lineNext (#first-line ++ rest) 0 ≡ 49
   first-next = next-back (#first-line ++ rest) #first-body 0 first-held first-plain (omega (arith, length-append #first-line rest))
 
-  -- it is a banner, with F = integer
-  pub banner-back : bannerAt (#first-line ++ rest) 48 ≡ (record { fine = true; integer = true })
-  unfolding bannerAt wordAt sameWord spells endsAt stretchEnd stretchesAt past cased smallLetter classOf between _and_ _or_ pick
+  -- it is a banner, with F = integer and general
+  pub banner-back : bannerAt (#first-line ++ rest) 48 ≡ (record { fine = true; field = Integer; symmetric = false })
+  unfolding bannerAt fieldAt wordAt sameWord spells endsAt stretchEnd stretchesAt past cased smallLetter classOf between _and_ _or_ pick
   banner-back = refl
 
 -- the bytes of the comment

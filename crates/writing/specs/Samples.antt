@@ -5,21 +5,15 @@ use mathlib.Core.List.{List, [], _∷_, _++_}
 use mathlib.Core.Path.{_≡_, refl}
 use Prim.Native.Nat.{ℕ}
 use lib.ListN.{length, replicate}
-use Rattle.counting.specs.Tests.{_and_, _or_, pick, bit}
-use Rattle.counting.specs.Sums.{sum}
+use Rattle.counting.specs.Tests.{_and_, _or_, pick}
 use Rattle.model.specs.declared.Word.the-variants.{BadPart, ShortBuffer, Order}
 use Rattle.model.specs.Refusal.{given, refusal, refuse, _then_, eachVerdict}
 use Rattle.model.specs.Pattern.{rowIn, columnIn}
 use Rattle.model.specs.Calls.{outside, sizesVerdict, rises, entryVerdict}
 use Rattle.pattern.specs.Measures.{partVerdict}
-use Rattle.scanning.specs.Classes.{between, classOf, smallLetter, cased, digitOf}
-use Rattle.scanning.specs.Checks.{moved}
-use Rattle.scanning.specs.Lines.{past, stretchesAt, stretchEnd, lineStop, hasReturn, lineEnd, lineNext, emptyLine, isComment, skipped, sizeLineAt}
-use Rattle.scanning.specs.Words.{wordAt, spells, sameWord, isNumber, valueOf, numberValue, numberAt, endsAt, threeAt, twoAt, numbersAt}
 use Rattle.texts.specs.declared.ReadAnswer.the-variants as read-answer
-use Rattle.texts.specs.Header.{bannerAt, headerOf, short, headVerdict}
-use Rattle.texts.specs.Entries.{entryAt, cellOf, noCells, isGiven, cellMark, entryCheck, lineVerdict, noted, endVerdict, after, entriesFrom}
-use Rattle.texts.specs.Reading.{listCell, partCell, listed, parted, givenParts, entriesBelow, answerRead, outputAfter, textVerdict, readVerdict, readCall, readList, readParts}
+use Rattle.texts.specs.Reading.{readCall, readList, readParts}
+use Rattle.texts.specs.Computing.{computing}
 use Rattle.writing.specs.declared.Figures.{Figures}
 use Rattle.writing.specs.declared.WriteAnswer.the-variants as write-answer
 use Rattle.writing.specs.Written.{decimals, numberText, figureText, endingText, commentText, sizesText, entryText, entriesText, headText, bodyText, textOf}
@@ -54,15 +48,15 @@ written-out = refl
 
 -- it is read back
 back : readCall printed diagonal apart ≡ read-answer.Read 2 2 2 true
-unfolding readCall readList readParts readVerdict textVerdict entriesBelow answerRead outputAfter givenParts listed parted listCell partCell entriesFrom after endVerdict noted lineVerdict entryCheck cellMark isGiven noCells cellOf entryAt headVerdict short headerOf bannerAt moved numbersAt threeAt twoAt endsAt numberAt numberValue valueOf isNumber sameWord spells wordAt sizeLineAt skipped isComment emptyLine lineNext lineEnd hasReturn lineStop stretchEnd stretchesAt past digitOf cased smallLetter classOf between refuse _then_ sizesVerdict outside sum _and_ _or_ pick bit
+unfolding computing
 back = refl
 
 back-list : readList printed (replicate 4 9) (replicate 2 9) ≡ diagonal
-unfolding readCall readList readParts readVerdict textVerdict entriesBelow answerRead outputAfter givenParts listed parted listCell partCell entriesFrom after endVerdict noted lineVerdict entryCheck cellMark isGiven noCells cellOf entryAt headVerdict short headerOf bannerAt moved numbersAt threeAt twoAt endsAt numberAt numberValue valueOf isNumber sameWord spells wordAt sizeLineAt skipped isComment emptyLine lineNext lineEnd hasReturn lineStop stretchEnd stretchesAt past digitOf cased smallLetter classOf between refuse _then_ sizesVerdict outside sum _and_ _or_ pick bit
+unfolding computing
 back-list = refl
 
 back-parts : readParts printed (replicate 4 9) (replicate 2 9) ≡ apart
-unfolding readCall readList readParts readVerdict textVerdict entriesBelow answerRead outputAfter givenParts listed parted listCell partCell entriesFrom after endVerdict noted lineVerdict entryCheck cellMark isGiven noCells cellOf entryAt headVerdict short headerOf bannerAt moved numbersAt threeAt twoAt endsAt numberAt numberValue valueOf isNumber sameWord spells wordAt sizeLineAt skipped isComment emptyLine lineNext lineEnd hasReturn lineStop stretchEnd stretchesAt past digitOf cased smallLetter classOf between refuse _then_ sizesVerdict outside sum _and_ _or_ pick bit
+unfolding computing
 back-parts = refl
 
 -- 0 is one digit, and the largest figure has twenty

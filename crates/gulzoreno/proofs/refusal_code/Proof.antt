@@ -3,7 +3,7 @@
 use borrow.Author.Needs.{needs}
 use native.Mathlib.Omega.{arith}
 use Rattle.model.specs.Refusal.{refusalCode, replyCode, refusal}
-use Rattle.gulzoreno.proofs.Places.{number-small}
+use Rattle.model.proofs.Theorems.Numbers.{number-range}
 use Rattle.gulzoreno.proofs.refusal_code.Statement.{statement}
 use Rattle.gulzoreno.proofs.refusal_code.Tie as tie
 
@@ -14,7 +14,7 @@ mul-result : tie.Need-mul-result
 mul-result c = search needs
 
 add-result : tie.Need-add-result
-add-result c = omega (arith, number-small (c .before .args .word), c .refusal-number .ensures)
+add-result c = omega (arith, number-range (c .before .args .word) .1, c .refusal-number .ensures)
 
 returns : tie.Need-returns
 unfolding refusalCode replyCode refusal

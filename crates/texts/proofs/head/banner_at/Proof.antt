@@ -35,6 +35,12 @@ same-word-requires-3 c κs = search needs
 word-at-requires-3 : tie.Need-word-at-requires-3
 word-at-requires-3 c κs = search needs
 
+field-at-requires : tie.Need-field-at-requires
+field-at-requires c κs = search needs
+
+word-at-requires-4 : tie.Need-word-at-requires-4
+word-at-requires-4 c κs = search needs
+
 slice-aggregate-same-word-4 : tie.Need-slice-aggregate-same-word-4
 slice-aggregate-same-word-4 c = search needs
 
@@ -47,26 +53,17 @@ slice-aggregate-same-word-5 c = search needs
 same-word-requires-5 : tie.Need-same-word-requires-5
 same-word-requires-5 c κs = search needs
 
-word-at-requires-4 : tie.Need-word-at-requires-4
-word-at-requires-4 c κs = search needs
-
-slice-aggregate-same-word-6 : tie.Need-slice-aggregate-same-word-6
-slice-aggregate-same-word-6 c = search needs
-
-same-word-requires-6 : tie.Need-same-word-requires-6
-same-word-requires-6 c κs = search needs
-
 ends-at-requires : tie.Need-ends-at-requires
 ends-at-requires c κs = search needs
 
 both-of-requires : tie.Need-both-of-requires
 both-of-requires c κs = search needs
 
-either-of-requires : tie.Need-either-of-requires
-either-of-requires c κs = search needs
-
 both-of-requires-2 : tie.Need-both-of-requires-2
 both-of-requires-2 c κs = search needs
+
+either-of-requires : tie.Need-either-of-requires
+either-of-requires c κs = search needs
 
 both-of-requires-3 : tie.Need-both-of-requires-3
 both-of-requires-3 c κs = search needs
@@ -78,7 +75,7 @@ both-of-requires-5 : tie.Need-both-of-requires-5
 both-of-requires-5 c κs = search needs
 
 returns : tie.Need-returns
-returns c = banner-by _ _ _ _ _ _ _ _ _ _ _ _ _ _ _ _ _ _ _ _ (c .before .before .before .before .before .before .before .before .before .before .before .before .before .before .before .before .before .before .before .before .before .before .before .stretch-end .ensures) (c .before .before .before .before .before .before .before .before .before .before .before .before .before .before .before .before .before .before .before .before .before .same-word .ensures) (c .before .before .before .before .before .before .before .before .before .before .before .before .before .before .before .before .before .before .before .before .word-at .ensures) (c .before .before .before .before .before .before .before .before .before .before .before .before .before .before .before .before .before .before .same-word2 .ensures) (c .before .before .before .before .before .before .before .before .before .before .before .before .before .before .before .before .before .word-at2 .ensures) (c .before .before .before .before .before .before .before .before .before .before .before .before .before .before .before .same-word3 .ensures) (c .before .before .before .before .before .before .before .before .before .before .before .before .before .before .word-at3 .ensures) (c .before .before .before .before .before .before .before .before .before .before .before .before .same-word4 .ensures) (c .before .before .before .before .before .before .before .before .before .before .same-word5 .ensures) (c .before .before .before .before .before .before .before .before .before .word-at4 .ensures) (c .before .before .before .before .before .before .before .same-word6 .ensures) (c .before .before .before .before .before .before .ends-at .ensures) (c .before .before .before .before .before .both-of .ensures) (c .before .before .before .before .either-of .ensures) (c .before .before .before .both-of2 .ensures) (c .before .before .both-of3 .ensures) (c .before .both-of4 .ensures) (c .both-of5 .ensures)
+returns c = banner-by _ _ _ _ _ _ _ _ _ _ _ _ _ _ _ _ _ _ _ _ (c .before .before .before .before .before .before .before .before .before .before .before .before .before .before .before .before .before .before .before .before .before .before .stretch-end .ensures) (c .before .before .before .before .before .before .before .before .before .before .before .before .before .before .before .before .before .before .before .before .same-word .ensures) (c .before .before .before .before .before .before .before .before .before .before .before .before .before .before .before .before .before .before .before .word-at .ensures) (c .before .before .before .before .before .before .before .before .before .before .before .before .before .before .before .before .before .same-word2 .ensures) (c .before .before .before .before .before .before .before .before .before .before .before .before .before .before .before .before .word-at2 .ensures) (c .before .before .before .before .before .before .before .before .before .before .before .before .before .before .same-word3 .ensures) (c .before .before .before .before .before .before .before .before .before .before .before .before .before .word-at3 .ensures) (c .before .before .before .before .before .before .before .before .before .before .before .before .field-at .ensures) (c .before .before .before .before .before .before .before .before .before .before .before .word-at4 .ensures) (c .before .before .before .before .before .before .before .before .before .same-word4 .ensures) (c .before .before .before .before .before .before .before .same-word5 .ensures) (c .before .before .before .before .before .before .ends-at .ensures) (c .before .before .before .before .before .both-of .ensures) (c .before .before .before .before .both-of2 .ensures) (c .before .before .before .either-of .ensures) (c .before .before .both-of3 .ensures) (c .before .both-of4 .ensures) (c .both-of5 .ensures)
 
 pub banner-at-spec : {M : Type 1} → statement M
 banner-at-spec =
@@ -94,17 +91,16 @@ banner-at-spec =
     slice-aggregate-same-word-3
     same-word-requires-3
     word-at-requires-3
+    field-at-requires
+    word-at-requires-4
     slice-aggregate-same-word-4
     same-word-requires-4
     slice-aggregate-same-word-5
     same-word-requires-5
-    word-at-requires-4
-    slice-aggregate-same-word-6
-    same-word-requires-6
     ends-at-requires
     both-of-requires
-    either-of-requires
     both-of-requires-2
+    either-of-requires
     both-of-requires-3
     both-of-requires-4
     both-of-requires-5

@@ -1,7 +1,7 @@
 -- `texts::is_short` meets its contract.
 -- Assumes nothing.
-use Rattle.texts.specs.Header.{short}
 use borrow.Author.Needs.{needs}
+use Rattle.texts.specs.Header.{short}
 use Rattle.texts.proofs.head.is_short.Statement.{statement}
 use Rattle.texts.proofs.head.is_short.Tie as tie
 
@@ -10,6 +10,9 @@ wide32-requires c κs = search needs
 
 mul-listed : tie.Need-mul-listed
 mul-listed c = search needs
+
+is-integer-requires : tie.Need-is-integer-requires
+is-integer-requires c κs = search needs
 
 both-of-requires : tie.Need-both-of-requires
 both-of-requires c κs = search needs
@@ -23,4 +26,11 @@ returns c = cc
 
 pub is-short-spec : {M : Type 1} → statement M
 is-short-spec =
-    tie.close (tie.spec wide32-requires mul-listed both-of-requires either-of-requires returns)
+    tie.close
+    (tie.spec
+    wide32-requires
+    mul-listed
+    is-integer-requires
+    both-of-requires
+    either-of-requires
+    returns)

@@ -2,7 +2,7 @@
 -- Assumes nothing.
 use mathlib.Core.Path.{sym, _∙_}
 use Rattle.pattern.proofs.Verdicts.{accepted-tag}
-use Rattle.texts.proofs.Answers.{head-rows, read-answer-is, read-list-is, read-parts-is, read-refused, read-list-kept, read-parts-kept, read-told}
+use Rattle.texts.proofs.Answers.{head-lines, read-answer-is, read-list-is, read-parts-is, read-refused, read-list-kept, read-parts-kept, read-told}
 use borrow.Author.Needs.{needs}
 use Rattle.texts.proofs.read.read.Statement.{statement}
 use Rattle.texts.proofs.read.read.Tie as tie
@@ -17,7 +17,7 @@ enum-told : tie.Need-enum-told
 enum-told c = search needs
 
 read-entries-requires : tie.Need-read-entries-requires
-read-entries-requires c κs = head-rows _ _ _ _ (sym (c .before .before .before .before .head-verdict .ensures) ∙ accepted-tag _ (c .before .before .before .match .keys1))
+read-entries-requires c κs = head-lines _ _ _ _ (sym (c .before .before .before .before .head-verdict .ensures) ∙ accepted-tag _ (c .before .before .before .match .keys1)) .0
 
 enum-known-head : tie.Need-enum-known-head
 enum-known-head c = search needs

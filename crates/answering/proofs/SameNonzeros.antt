@@ -1,0 +1,34 @@
+-- Two texts that are read and give the same nonzeros, as a symmetric text and its opened form do, are answered alike.
+-- Assumes nothing.
+use mathlib.Core.Bool.{Bool}
+use mathlib.Core.List.{List}
+use mathlib.Core.Path.{_≡_, sym, _∙_, ap}
+use Prim.Native.Nat.{ℕ}
+use Rattle.model.specs.Calls.{capCall}
+use Rattle.texts.specs.declared.ReadAnswer.{ReadAnswer}
+use Rattle.texts.specs.declared.ReadAnswer.the-variants as read-answer
+use Rattle.texts.specs.Reading.{readCall, readList}
+use Rattle.readback.specs.TextSays.{SameNonzeros}
+use Rattle.readback.proofs.SameNonzeros.{sizes-same, list-same}
+use Rattle.answering.specs.Answer.{listRoom, partsRoom, afterCap, afterReading, patternText}
+
+-- what follows a text that is read is by its sizes and its list
+text-read :
+    (text : List ℕ) (m n nonzeros : ℕ) (integer : Bool) (percent budget : ℕ) (out : List ℕ) →
+    readCall text listRoom partsRoom ≡ read-answer.Read m n nonzeros integer →
+    patternText text percent budget out ≡ afterCap (capCall nonzeros percent) m n nonzeros (readList text listRoom partsRoom) budget out
+unfolding patternText afterReading
+text-read text m n nonzeros integer percent budget out e =
+    ap (λ (x : ReadAnswer). afterReading x (readList text listRoom partsRoom) percent budget out) e
+
+pub same-answer :
+    (one other : List ℕ) (m n nonzeros m′ n′ nonzeros′ : ℕ) (integer integer′ : Bool) (percent budget : ℕ) (out : List ℕ) → SameNonzeros one other →
+    readCall one listRoom partsRoom ≡ read-answer.Read m n nonzeros integer →
+    readCall other listRoom partsRoom ≡ read-answer.Read m′ n′ nonzeros′ integer′ →
+    patternText one percent budget out ≡ patternText other percent budget out
+same-answer one other m n nonzeros m′ n′ nonzeros′ integer integer′ percent budget out alike e f =
+    let sizes = sizes-same one other listRoom partsRoom alike e f in
+    text-read one m n nonzeros integer percent budget out e
+    ∙ rw
+    (sizes .0, sizes .1, sizes .2, list-same one other listRoom partsRoom alike e f)
+    (sym (text-read other m′ n′ nonzeros′ integer′ percent budget out f))
