@@ -81,7 +81,7 @@ module _ (text : List ℕ) (rows : headerOf text .m ≤ 120) (columns : headerOf
       s
 
   -- two lines that stand for one nonzero have the same row and column
-  pub same-entry :
+  same-entry :
       (j k row column : ℕ) → InForm text j → InForm text k → StandsFor h (entryBelow text j) row column → StandsFor h (entryBelow text k) row column →
       (entryBelow text j .first ≡ entryBelow text k .first) × (entryBelow text j .second ≡ entryBelow text k .second)
   same-entry j k row column f g a b =

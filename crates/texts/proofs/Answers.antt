@@ -168,7 +168,7 @@ module _
   unfolding textVerdict
   text-is = sym (f ∙ ap (λ x. headVerdict x (length text) (length list) (length parts)) e)
 
-  pub read-is : v ≡ Accepted → readVerdict text list parts ≡ below-h
+  read-is : v ≡ Accepted → readVerdict text list parts ≡ below-h
   unfolding readVerdict
   read-is a = then-accepted _ (text-is ∙ a) ∙ ap (λ x. belowVerdict text x (length list) (length parts)) (sym e)
 
