@@ -73,7 +73,7 @@ uint64_t random_cap(Random& random, uint64_t nonzeros) {
     uint64_t half = (nonzeros + 1) / 2;
     switch (random.below(4)) {
     case 0: return half;
-    case 1: return std::min<uint64_t>(2000, (100 + random.below(101)) * nonzeros / 200);
+    case 1: return (100 + random.below(101)) * half / 100;   // from a percentage
     case 2: return half + random.below(nonzeros - half + 1);
     default: return random.below(2001);
     }

@@ -1,6 +1,6 @@
 // Checks both walks and the texts against each other, against vectors from
-// another model, against the samples of document 01 and against brute force,
-// and symmetric and valued texts against plain ones.
+// another model, against the samples of documents 01 and 02 and against brute
+// force, and symmetric and valued texts against plain ones.
 // Usage: selftest DATA-DIRECTORY. The last line is "N checked, 0 differ".
 #include "baseline/text.hpp"
 #include "random_texts.hpp"
@@ -215,14 +215,64 @@ void check_percent(uint64_t nonzeros, uint64_t percent, uint64_t number, uint64_
     check(answer.number == number && answer.place == 0 && found == cap, "cap from a percentage");
 }
 
-void check_samples() {
+void check_percents() {
     check_percent(4, 0, 0, 2);
-    check_percent(233, 3, 0, 119);
-    check_percent(1, 0, 0, 0);
+    check_percent(233, 3, 0, 120);
+    check_percent(225, 3, 0, 116);
+    check_percent(1, 0, 0, 1);
+    check_percent(1, 99, 0, 1);
+    check_percent(1, 100, 0, 2);
+    check_percent(3, 0, 0, 2);
+    check_percent(3, 49, 0, 2);
+    check_percent(3, 50, 0, 3);
+    check_percent(5, 50, 0, 4);
+    check_percent(1999, 0, 0, 1000);
+    check_percent(1999, 100, 0, 2000);
     check_percent(2000, 100, 0, 2000);
+    for (uint64_t percent = 0; percent <= most_percent; ++percent) check_percent(0, percent, 0, 0);
     check_percent(2001, 101, too_big, 0);
     check_percent(2000, 101, cap_range, 0);
+    check_percent(1999, 101, cap_range, 0);
+    check_percent(0, 101, cap_range, 0);
     check_percent(UINT64_MAX, UINT64_MAX, too_big, 0);
+}
+
+// The cap, or a number out of its range if it is refused.
+uint64_t cap_at(uint64_t nonzeros, uint64_t percent) {
+    uint64_t cap = 0;
+    return cap_from_percent(nonzeros, percent, cap).refused() ? most_cap + 1 : cap;
+}
+
+// The cap is the whole part of the quotient, in range, enough for half of the
+// nonzeros and no less than the caps of fewer nonzeros and of less percent; for
+// even N it is also the whole part of (100 + e) * N / 200.
+uint64_t check_cap(uint64_t nonzeros, uint64_t percent) {
+    uint64_t cap = cap_at(nonzeros, percent);
+    uint64_t half = nonzeros - nonzeros / 2, product = (100 + percent) * half;
+    bool whole = 100 * cap <= product && product < 100 * cap + 100;
+    bool enough = half <= cap && nonzeros <= 2 * cap && cap <= most_cap;
+    bool rises = (nonzeros == 0 || cap_at(nonzeros - 1, percent) <= cap) &&
+                 (percent == 0 || cap_at(nonzeros, percent - 1) <= cap);
+    bool even = nonzeros % 2 == 1 || cap == (100 + percent) * nonzeros / 200;
+    check(whole && enough && rises && even,
+          "cap from " + std::to_string(nonzeros) + " at " + std::to_string(percent));
+    return cap;
+}
+
+// Every N and every percentage; each cap opens a pattern of N nonzeros.
+void check_all_caps() {
+    Sample sample = sample_of(120, 120, 0, {});
+    for (uint64_t nonzeros = 0; nonzeros <= most_nonzeros; ++nonzeros) {
+        for (uint64_t percent = 0; percent <= most_percent; ++percent) {
+            sample.cap = check_cap(nonzeros, percent);
+            opened(sample);
+        }
+        sample.bytes.push_back(uint8_t(nonzeros / 120));
+        sample.bytes.push_back(uint8_t(nonzeros % 120));
+    }
+}
+
+void check_samples() {
     check_end(sample_of(1, 1, 1, {0, 0}), 0, 5, "one nonzero, cap 1");
     check_opening(sample_of(1, 1, 0, {0, 0}), no_split, 0, "one nonzero, cap 0");
     Sample diagonal = sample_of(2, 2, 1, {0, 0, 1, 1});
@@ -518,6 +568,12 @@ void check_matrices(const std::string& data) {
     Sample karate = read_matrix(data + "/karate.mtx");
     check(karate.cap == 80, "karate: cap 80");
     check_end(karate, 8, 24934, "karate: volume 8, complete after 24,934 tries");
+    Sample divorce = read_matrix(data + "/divorce.mtx");
+    check(divorce.nonzeros() == 225 && divorce.cap == 116, "divorce: cap 116");
+    check_end(divorce, 8, 3933, "divorce: volume 8, complete after 3,933 tries");
+    Sample cage5 = read_matrix(data + "/cage5.mtx");
+    check(cage5.nonzeros() == 233 && cage5.cap == 120, "cage5: cap 120");
+    check_end(cage5, 14, 744337, "cage5: volume 14, complete after 744,337 tries");
     check_matrix(data + "/karate.mtx", 156, 80, 10000);
     check_matrix(data + "/chesapeake.mtx", 340, 175, 100000);
     check_matrix(data + "/steam3.mtx", 928, 477, 50000);
@@ -970,6 +1026,32 @@ void check_round_trips(int patterns) {
     }
 }
 
+// An odd number of nonzeros: at 0 percent the cap is half of them, rounded up.
+void check_odd_splits() {
+    auto solved = [](const std::string& figures, const std::string& body) {
+        return integer_banner + "% " + figures + " complete\n" + body;
+    };
+    const std::string one = pattern_banner + "1 1 1\n1 1\n";
+    const std::string row = pattern_banner + "1 3 3\n1 3\n1 1\n1 2\n";
+    const std::string column = pattern_banner + "3 1 3\n3 1\n1 1\n2 1\n";
+    check_split("percent 0 budget 100\n" + one,
+                solved("volume 0 cap 1 tries 5 floor 0", "1 1 1\n1 1 1\n"));
+    check_split("percent 100 budget 100\n" + one,
+                solved("volume 0 cap 2 tries 5 floor 0", "1 1 1\n1 1 1\n"));
+    check_split("percent 0 budget 1000001\n" + one, "refused 13 at 0\n");
+    check_split("percent 101 budget 1000001\n" + one, "refused 11 at 0\n");
+    for (const char* percent : {"0", "33", "49"})
+        check_split("percent " + std::string(percent) + " budget 100\n" + row,
+                    solved("volume 1 cap 2 tries 10 floor 1", "1 3 3\n1 1 1\n1 2 1\n1 3 2\n"));
+    check_split("percent 0 budget 0\n" + row, "none yet cap 2 tries 0 floor 1\n");
+    check_split("percent 0 budget 100\n" + column,
+                solved("volume 1 cap 2 tries 10 floor 1", "3 1 3\n1 1 1\n2 1 1\n3 1 2\n"));
+    check_split("percent 100 budget 100\n" + row,
+                solved("volume 0 cap 4 tries 11 floor 0", "1 3 3\n1 1 1\n1 2 1\n1 3 1\n"));
+    check_split("percent 0 budget 100\n" + symmetric_banner + "2 2 2\n2 1\n2 2\n",
+                solved("volume 1 cap 2 tries 11 floor 1", "2 2 3\n1 2 2\n2 1 1\n2 2 1\n"));
+}
+
 void check_splits(const std::string& data) {
     const std::string two = pattern_banner + "2 2 2\n2 2\n1 1\n";
     const std::string solved = integer_banner + "% volume 0 cap 1 tries 11 floor 0 complete\n"
@@ -988,8 +1070,7 @@ void check_splits(const std::string& data) {
     check_split("percent 101 budget 1000001\n" + two, "refused 11 at 0\n");
     check_split("percent 0 budget 1000001\n" + two, "refused 13 at 0\n");
     check_split("percent 999999999 budget 999999999\n" + two + "1", "refused 7 at 63\n");
-    check_split("percent 0 budget 1000001\n" + pattern_banner + "1 1 1\n1 1\n",
-                "refused 12 at 0\n");
+    check_odd_splits();
     check_split("percent 0 budget 1\n", "refused 1 at 0\n");
     check_split("percent 0 budget 1\n" + std::string(longest_text + 1, ' '), "refused 4 at 0\n");
     check_split("percent 0 budget 5\n" + pattern_banner + "2 3 0\n",
@@ -1002,7 +1083,7 @@ void check_splits(const std::string& data) {
     check_split(start + symmetric_banner + "2 2 1\n1 2\n", "refused 16 at 57\n");
     check_split("percent 101 budget 0\n" + symmetric_banner + "2 2 1\n2 1\n", "refused 11 at 0\n");
     check_split("percent 0 budget 0\n" + symmetric_banner + "2 2 2\n2 1\n1 1\n",
-                "refused 12 at 0\n");
+                "none yet cap 2 tries 0 floor 1\n");
     const std::string all = "percent 3 budget 1000000\n";
     std::string karate = split_with_both(all + file_bytes(data + "/karate.mtx"));
     check(karate.find("% volume 8 cap 80 tries 24934 floor 8 complete\n34 34 156\n") ==
@@ -1068,6 +1149,9 @@ int main(int arguments, char** words) {
     check_bounds(data + "/bounds.txt");
     check_walks(data + "/walks.txt");
     part_done("vectors");
+    check_percents();
+    check_all_caps();
+    part_done("caps from a percentage");
     check_samples();
     check_sample_bound();
     check_refused_openings();

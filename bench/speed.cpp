@@ -111,11 +111,6 @@ Measure measured(bipartition_function* function, const Subject& subject, uint64_
 
 // ---- patterns
 
-void set_cap(Subject& subject) {
-    baseline::cap_from_percent(subject.nonzeros(), 3, subject.cap);
-    if (subject.nonzeros() > 2 * subject.cap) ++subject.cap;
-}
-
 Subject matrix(const std::string& data, const std::string& name) {
     std::ifstream file(data + "/" + name + ".mtx", std::ios::binary);
     std::string text{std::istreambuf_iterator<char>(file), {}};
@@ -127,7 +122,7 @@ Subject matrix(const std::string& data, const std::string& name) {
     subject.rows = content.rows;
     subject.columns = content.columns;
     subject.list.resize(2 * content.nonzeros);
-    set_cap(subject);
+    baseline::cap_from_percent(subject.nonzeros(), 3, subject.cap);
     return subject;
 }
 
@@ -138,7 +133,7 @@ Subject random_subject(uint64_t rows, uint64_t columns, uint64_t nonzeros, uint6
     subject.rows = rows;
     subject.columns = columns;
     subject.list = random_list(random, rows, columns, nonzeros);
-    set_cap(subject);
+    baseline::cap_from_percent(subject.nonzeros(), 3, subject.cap);
     return subject;
 }
 

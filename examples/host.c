@@ -135,6 +135,12 @@ static int read_pattern(const char *path, struct pattern *p)
     return bad;
 }
 
+/* The cap from a percentage: the whole part of (100 + percent) * ceiling(nonzeros / 2) / 100. It is never too low for a split. */
+static uint64_t cap_from_percent(uint64_t nonzeros, uint64_t percent)
+{
+    return (100 + percent) * ((nonzeros + 1) / 2) / 100;
+}
+
 int main(int argc, char **argv)
 {
     static const struct pattern diagonal = {2, 2, 2, {0, 0, 1, 1}};
@@ -149,7 +155,7 @@ int main(int argc, char **argv)
             return 1;
         }
         const char *name = strrchr(argv[k], '/');
-        wrong |= split(name == NULL ? argv[k] : name + 1, &p, 103 * p.nonzeros / 200, GULZORENO_MOST_BUDGET);
+        wrong |= split(name == NULL ? argv[k] : name + 1, &p, cap_from_percent(p.nonzeros, 3), GULZORENO_MOST_BUDGET);
     }
     return wrong;
 }

@@ -99,7 +99,9 @@ public:
 const Walk& plain();
 const Walk& incremental();
 
-// The cap from a percentage.
+// The cap from a percentage: the whole part of
+// (100 + percent) * ceiling(nonzeros / 2) / 100. Checks 4, then 11. It is at
+// least half of the nonzeros, so an opening with it is never refused 12.
 Answer cap_from_percent(uint64_t nonzeros, uint64_t percent, uint64_t& cap);
 
 // Checks 4, 9, then per nonzero 5 and 10.

@@ -5,3 +5,6 @@ pub mod Roomy
 pub mod Fitting
 pub mod Whole
 pub mod SameNonzeros
+pub mod Telling
+pub mod AfterReading
+pub mod Refusing

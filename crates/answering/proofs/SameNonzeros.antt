@@ -13,7 +13,7 @@ use Rattle.readback.proofs.SameNonzeros.{sizes-same, list-same}
 use Rattle.answering.specs.Answer.{listRoom, partsRoom, afterCap, afterReading, patternText}
 
 -- what follows a text that is read is by its sizes and its list
-text-read :
+pub text-read :
     (text : List ℕ) (m n nonzeros : ℕ) (integer : Bool) (percent budget : ℕ) (out : List ℕ) →
     readCall text listRoom partsRoom ≡ read-answer.Read m n nonzeros integer →
     patternText text percent budget out ≡ afterCap (capCall nonzeros percent) m n nonzeros (readList text listRoom partsRoom) budget out

@@ -1,3 +1,4 @@
 pub mod FirstLine
 pub mod Answer
 pub mod Printing
+pub mod Refusing

@@ -1,5 +1,7 @@
 pub mod Checks
 pub mod Accepted
+pub mod Spared
+pub mod Capped
 pub mod OfList
 pub mod Least
 pub mod Ends

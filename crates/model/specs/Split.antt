@@ -1,4 +1,4 @@
--- Document 01, 'Pattern, split, cap': a split, its load and volume, and meeting a cap.
+-- Document 01, 'Pattern, split, cap', with the cap of document 02's request 2: a split, its load and volume, and meeting a cap.
 -- Assumes nothing.
 use mathlib.Core.Bool.{Bool, true, false}
 use Prim.Native.Nat.{ℕ, _+_, _-_, _*_, _/_, _≤_}
@@ -58,6 +58,10 @@ pub record Meets (P : Pattern) (cap : ℕ) (σ : Split) : Type 0 where
   pub zero-fits : load P σ Zero ≤ cap
   pub one-fits : load P σ One ≤ cap
 
--- cap from a percentage: the whole part of (100 + e) × N / 200
+-- ceiling(x / 2)
+unfoldable pub ceilingHalf : ℕ → ℕ
+ceilingHalf x = (x + 1) / 2
+
+-- cap from a percentage, as published: the whole part of (100 + e) × ceiling(N / 2) / 100
 unfoldable pub capFromPercent : ℕ → ℕ → ℕ
-capFromPercent nonzeros percent = (100 + percent) * nonzeros / 200
+capFromPercent nonzeros percent = (100 + percent) * ceilingHalf nonzeros / 100

@@ -22,3 +22,4 @@ pub mod SameNonzeros
 pub mod ReadWriteRead
 pub mod Refusals
 pub mod OtherBytes
+pub mod Spared

@@ -11,5 +11,6 @@ pub mod RunTold
 pub mod ShowTold
 pub mod Wanting
 pub mod Demand3
+pub mod OneRun
 pub mod Shows
 pub mod Splits

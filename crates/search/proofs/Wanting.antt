@@ -5,65 +5,33 @@ use mathlib.Core.Bool.{Bool, true, false}
 use mathlib.Core.List.{List}
 use mathlib.Core.Logic.{_↔_}
 use mathlib.Core.Path.{_≡_, refl, sym, _∙_, ap}
-use Prim.Native.Nat.{ℕ, zero, suc, _*_}
+use Prim.Native.Nat.{ℕ, _*_}
 use native.Mathlib.Omega.{arith}
 use lib.Dec.{ltb}
 use borrow.Author.Tests.{ltb-true, ltb-false, le-ltb}
+use Rattle.counting.specs.Tests.{_or_}
 use Rattle.counting.proofs.Joined.{no-way, clash, passes, never}
-use Rattle.model.specs.declared.Word.{Word}
-use Rattle.model.specs.declared.Word.the-variants.{ShortBuffer, Cap, NoSplit, TooBig, OffMatrix, Order}
+use Rattle.model.specs.declared.Word.the-variants.{Cap, NoSplit}
 use Rattle.model.specs.declared.Verdict.{Verdict}
 use Rattle.model.specs.declared.Verdict.the-variants.{Accepted, Refused}
 use Rattle.model.specs.Limits.{capLimit}
-use Rattle.model.specs.Refusal.{refuse, _then_, eachVerdict}
+use Rattle.model.specs.Refusal.{refuse, _then_}
 use Rattle.model.specs.Pattern.{patternOf}
-use Rattle.model.specs.Calls.{listVerdict, openVerdict, sizesVerdict, entryVerdict, entriesVerdict}
+use Rattle.model.specs.Calls.{listVerdict, openVerdict}
 use Rattle.model.proofs.Theorems.Accepted.{open-accepted}
+use Rattle.model.proofs.Theorems.Spared.{Spares}
+use Rattle.model.proofs.Theorems.Capped.{forCap, wordForCap, list-spares}
 use Rattle.model.proofs.Theorems.Least.{split-exists}
 use Rattle.search.specs.Demand.{Within, Splits}
 
--- a verdict that is not refusal 12
-abbrev Other : Verdict → Type 0
-Other v = (place : ℕ) → v ≡ Refused NoSplit place → ⊥
-
-then-other : (v w : Verdict) → Other v → Other w → Other (v then w)
-unfolding _then_
-then-other Accepted w a b = b
-then-other (Refused word place) w a b = a
-
-refuse-other : (test : Bool) (word : Word) (place : ℕ) → (word ≡ NoSplit → ⊥) → Other (refuse test word place)
-unfolding refuse
-refuse-other true word place h = λ p e. h (cc)
-refuse-other false word place h = λ p e. never (cc)
-
--- the checks of a list
-entry-other : (m n : ℕ) (list : List ℕ) (t : ℕ) → Other (entryVerdict m n list t)
-unfolding entryVerdict
-entry-other m n list t =
-    then-other _ _ (refuse-other _ OffMatrix t (λ e. never (cc))) (refuse-other _ Order t (λ e. never (cc)))
-
-entries-other : (m n : ℕ) (list : List ℕ) (t : ℕ) → Other (entriesVerdict m n list t)
-unfolding eachVerdict
-entries-other m n list zero = λ p e. never (cc)
-entries-other m n list (suc t) = then-other _ _ (entries-other m n list t) (entry-other m n list t)
-
-list-other : (m n nonzeros : ℕ) (list : List ℕ) → Other (listVerdict m n nonzeros list)
-unfolding listVerdict sizesVerdict
-list-other m n nonzeros list =
-    then-other
-    _
-    _
-    (then-other _ _ (refuse-other _ TooBig 0 (λ e. never (cc))) (refuse-other _ ShortBuffer 0 (λ e. never (cc))))
-    (entries-other m n list nonzeros)
-
 -- refusal 12 behind a list's checks and that of the cap
 behind :
-    (v : Verdict) (over short : Bool) → Other v → v then refuse over Cap 0 then refuse short NoSplit 0 ≡ Refused NoSplit 0 →
+    (v : Verdict) (over short : Bool) → Spares wordForCap v → v then refuse over Cap 0 then refuse short NoSplit 0 ≡ Refused NoSplit 0 →
     (v ≡ Accepted) × (over ≡ false)
-unfolding _then_ refuse
-behind Accepted true short o e = never (cc)
-behind Accepted false short o e = (refl, refl)
-behind (Refused word place) over short o e = absurd (o 0 e)
+unfolding _then_ refuse forCap _or_
+behind Accepted true short s e = never (cc)
+behind Accepted false short s e = (refl, refl)
+behind (Refused word place) over short s e = clash refl (s .spared NoSplit 0 e)
 
 -- an opening refused under 12 is within the limits
 refused-within :
@@ -71,7 +39,7 @@ refused-within :
     Within m n nonzeros list cap
 unfolding openVerdict
 refused-within m n nonzeros list cap e =
-    let w = behind (listVerdict m n nonzeros list) (ltb capLimit cap) (ltb (2 * cap) nonzeros) (list-other m n nonzeros list) e in
+    let w = behind (listVerdict m n nonzeros list) (ltb capLimit cap) (ltb (2 * cap) nonzeros) (list-spares m n nonzeros list) e in
     record { listed = w .0; capped = ltb-false capLimit cap (w .1) }
 
 -- checks that refuse nothing leave the last

@@ -3,7 +3,7 @@
 use mathlib.Core.Bool.{Bool, true, false, not}
 use mathlib.Core.List.{List, [], _∷_, _++_, append-assoc}
 use mathlib.Core.Path.{_≡_, refl, sym, _∙_, ap}
-use Prim.Native.Nat.{ℕ, _+_, _-_, _^_, _<_}
+use Prim.Native.Nat.{ℕ, _+_, _-_, _^_, _≤_, _<_}
 use native.Mathlib.Omega.{arith}
 use lib.Dec.{eqb, ltb}
 use lib.ListN.{length, getD, length-append}
@@ -121,6 +121,20 @@ byte-after {text} {at} s b h =
     let e : at + length s + 0 ≡ at + length s = omega arith in
     ap (λ k. getD text k 0) (sym e) ∙ holds-right s (b ∷ []) h .at-each 0 (omega arith)
 
+-- a number with a space after it is read back, from its first digit on and from blanks before it
+number-spaced :
+    (text : List ℕ) (at end from n : ℕ) → stretchEnd Blanks text at end ≡ from → Holds text from (decimals 20 n ++ (32 ∷ [])) → n < 10 ^ 9 →
+    from + length (decimals 20 n) ≤ end → numberAt text at end ≡ (record { fine = true; value = n; stop = from + length (decimals 20 n) })
+number-spaced text at end from n blanks held small inside =
+    number-back text at end from n blanks (holds-left (decimals 20 n) (32 ∷ []) held) small inside
+    (stops-here Nonblanks text (from + length (decimals 20 n)) end 32 (byte-after (decimals 20 n) 32 held) (ap (stretchesOver Nonblanks) space-class))
+
+pub number-first :
+    (text : List ℕ) (at end n : ℕ) → Holds text at (decimals 20 n ++ (32 ∷ [])) → n < 10 ^ 9 →
+    at + length (decimals 20 n) ≤ end → numberAt text at end ≡ (record { fine = true; value = n; stop = at + length (decimals 20 n) })
+number-first text at end n held small inside =
+    number-spaced text at end at n (digit-first text at n end (holds-left (decimals 20 n) (32 ∷ []) held)) held small inside
+
 -- where the second and the third number of a line start, and where the line ends
 abbrev pub second : ℕ → ℕ → ℕ
 second at a = at + length (decimals 20 a) + 1
@@ -170,37 +184,23 @@ module _
 
   first-number :
       numberAt text at (lineOver at a b c) ≡ (record { fine = true; value = a; stop = at + length (decimals 20 a) })
-  first-number =
-      let h = holds-left (decimals 20 a) (32 ∷ []) held-first in
-      number-back
-      text
-      at
-      (lineOver at a b c)
-      at
-      a
-      (digit-first text at a (lineOver at a b c) h)
-      h
-      sa
-      (omega arith)
-      (stops-here Nonblanks text (at + length (decimals 20 a)) (lineOver at a b c) 32 (byte-after (decimals 20 a) 32 held-first) (ap (stretchesOver Nonblanks) space-class))
+  first-number = number-first text at (lineOver at a b c) a held-first sa (omega arith)
 
   second-number :
       numberAt text (at + length (decimals 20 a)) (lineOver at a b c)
       ≡ (record { fine = true; value = b; stop = second at a + length (decimals 20 b) })
   second-number =
-      let h = holds-left (decimals 20 b) (32 ∷ []) held-second in
-      number-back
+      number-spaced
       text
       (at + length (decimals 20 a))
       (lineOver at a b c)
       (second at a)
       b
       (goes-over Blanks text (at + length (decimals 20 a)) (lineOver at a b c) 32 (omega arith) (byte-after (decimals 20 a) 32 held-first) (ap (stretchesOver Blanks) space-class)
-      ∙ digit-first text (second at a) b (lineOver at a b c) h)
-      h
+      ∙ digit-first text (second at a) b (lineOver at a b c) (holds-left (decimals 20 b) (32 ∷ []) held-second))
+      held-second
       sb
       (omega arith)
-      (stops-here Nonblanks text (second at a + length (decimals 20 b)) (lineOver at a b c) 32 (byte-after (decimals 20 b) 32 held-second) (ap (stretchesOver Nonblanks) space-class))
 
   third-number :
       numberAt text (second at a + length (decimals 20 b)) (lineOver at a b c)

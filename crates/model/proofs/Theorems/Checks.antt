@@ -62,6 +62,12 @@ unfolding _then_
 then-second Accepted w h = h
 then-second (Refused word place) w h = refused-not h
 
+-- a check that refuses nothing adds nothing
+pub then-rest : (v : Verdict) {w : Verdict} → w ≡ Accepted → v then w ≡ v
+unfolding _then_
+then-rest Accepted h = h
+then-rest (Refused word place) h = refl
+
 -- checks may be grouped
 pub then-assoc : (u v w : Verdict) → u then v then w ≡ u then (v then w)
 unfolding _then_

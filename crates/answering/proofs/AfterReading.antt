@@ -1,0 +1,141 @@
+-- What the program answers to a text that is read: 11 for E out of its range, then 13 for B out of its range, else no refusal.
+-- Assumes nothing.
+use mathlib.Core.Bool.{Bool, true, false}
+use mathlib.Core.List.{List}
+use mathlib.Core.Path.{_≡_, refl, sym, _∙_, ap}
+use Prim.Native.Nat.{ℕ, _≤_, _<_}
+use native.Mathlib.Omega.{arith}
+use lib.ListN.{length, length-replicate}
+use borrow.Author.Tests.{le-ltb}
+use Rattle.counting.proofs.Joined.{pick-false}
+use Rattle.model.specs.declared.Word.the-variants.{ShortBuffer, Cap, Budget}
+use Rattle.model.specs.declared.Verdict.{Verdict}
+use Rattle.model.specs.declared.Verdict.the-variants.{Accepted, Refused}
+use Rattle.model.specs.declared.CapAnswer.{CapAnswer}
+use Rattle.model.specs.declared.Search.{Search}
+use Rattle.model.specs.declared.RunAnswer.{RunAnswer}
+use Rattle.model.specs.declared.ShowAnswer.{ShowAnswer}
+use Rattle.model.specs.declared.ShowAnswer.the-variants as show-answer
+use Rattle.model.specs.Limits.{nonzeroLimit, percentLimit, budgetLimit}
+use Rattle.model.specs.Split.{capFromPercent}
+use Rattle.model.specs.Calls.{listVerdict, openVerdict, capCall, openCall, ended}
+use Rattle.model.proofs.Theorems.Accepted.{list-accepted}
+use Rattle.model.proofs.Theorems.Checks.{refused-not}
+use Rattle.model.proofs.Theorems.Capped.{cap-given, cap-refused, capped-opens}
+use Rattle.search.proofs.OneRun.{Run, run-refused, run-ended, Shown, Left, told, shows, parts-fine}
+use Rattle.scanning.specs.Words.{isInteger}
+use Rattle.texts.specs.declared.ReadAnswer.the-variants as read-answer
+use Rattle.texts.specs.Header.{headerOf}
+use Rattle.texts.specs.Reading.{nonzerosIn, answerRead, readVerdict, cellsOf, readCall, readList}
+use Rattle.writing.specs.declared.Figures.{Figures}
+use Rattle.writing.specs.declared.WriteAnswer.{WriteAnswer}
+use Rattle.writing.specs.declared.WriteAnswer.the-variants as write-answer
+use Rattle.writing.specs.Written.{textOf}
+use Rattle.writing.specs.Writing.{lengthAnswer, answerWritten, writeCall}
+use Rattle.writing.specs.Lines.{refusedText}
+use Rattle.readback.proofs.Accepted.{fine-split}
+use Rattle.readback.proofs.Short.{text-short}
+use Rattle.readback.proofs.AnyText.{read-list-fine, read-writes}
+use Rattle.answering.specs.Answer.{listRoom, partsRoom, figuresOf, afterWriting, afterShowing, searchText, afterRun, ranText, afterOpening, openedText, afterCap, patternText}
+use Rattle.answering.specs.Printing.{outputRoom}
+use Rattle.answering.specs.Refusing.{refusalIn}
+use Rattle.answering.proofs.SameNonzeros.{text-read}
+use Rattle.answering.proofs.Telling.{none-tells, split-tells}
+
+-- a text that is read, after a first line that is right
+module _ (text : List ℕ) (percent budget : ℕ) (out : List ℕ) (accepted : readVerdict text listRoom partsRoom ≡ Accepted) where
+  abbrev m : ℕ
+  m = headerOf text .m
+
+  abbrev n : ℕ
+  n = headerOf text .n
+
+  abbrev nonzeros : ℕ
+  nonzeros = nonzerosIn (headerOf text) (cellsOf text)
+
+  abbrev list : List ℕ
+  list = readList text listRoom partsRoom
+
+  read-is : readCall text listRoom partsRoom ≡ read-answer.Read m n nonzeros (isInteger (headerOf text .field))
+  unfolding readCall answerRead
+  read-is = ap (λ (v : Verdict). answerRead v (headerOf text) nonzeros) accepted
+
+  listed : listVerdict m n nonzeros list ≡ Accepted
+  listed = read-list-fine text listRoom partsRoom m n nonzeros _ read-is
+
+  few : nonzeros ≤ nonzeroLimit
+  few = list-accepted m n nonzeros list listed .size-to
+
+  after-cap : patternText text percent budget out ≡ afterCap (capCall nonzeros percent) m n nonzeros list budget out
+  after-cap = text-read text m n nonzeros _ percent budget out read-is
+
+  -- E out of its range is refused 11
+  pub percent-refused : percentLimit < percent → patternText text percent budget out ≡ refusedText Cap 0
+  unfolding afterCap
+  percent-refused high = after-cap ∙ ap (λ (a : CapAnswer). afterCap a m n nonzeros list budget out) (cap-refused nonzeros percent few high)
+
+  -- with E in its range the search opens
+  module _ (low : percent ≤ percentLimit) where
+    abbrev cap : ℕ
+    cap = capFromPercent nonzeros percent
+
+    capped : openVerdict m n nonzeros list cap ≡ Accepted
+    capped = capped-opens nonzeros percent cap (cap-given nonzeros percent few low) m n list ∙ listed
+
+    abbrev After : Search
+    After = Run m n nonzeros list cap budget capped .search
+
+    after-run : patternText text percent budget out ≡ afterRun (Run m n nonzeros list cap budget capped .answer) After m n nonzeros list out
+    unfolding afterCap openedText openCall afterOpening ranText
+    after-run =
+        after-cap
+        ∙ ap (λ (a : CapAnswer). afterCap a m n nonzeros list budget out) (cap-given nonzeros percent few low)
+        ∙ ap (λ (v : Verdict). afterOpening v (openCall m n nonzeros list cap .search) m n nonzeros list budget out) capped
+
+    -- B out of its range is refused 13
+    pub budget-refused : budgetLimit < budget → patternText text percent budget out ≡ refusedText Budget 0
+    unfolding afterRun
+    budget-refused over = after-run ∙ ap (λ (a : RunAnswer). afterRun a After m n nonzeros list out) (run-refused m n nonzeros list cap budget capped over)
+
+    -- with B in its range nothing is refused
+    module _ (within : budget ≤ budgetLimit) (room : outputRoom ≤ length out) where
+      abbrev Answer : ShowAnswer
+      Answer = Shown m n nonzeros list cap budget capped within partsRoom
+
+      abbrev Parts : List ℕ
+      Parts = Left m n nonzeros list cap budget capped within partsRoom
+
+      parts-room : nonzeros ≤ length partsRoom
+      parts-room = omega (arith, few, length-replicate {A = ℕ} nonzeroLimit 0)
+
+      -- the split is written
+      split-written : (volume floor : ℕ) → Answer ≡ show-answer.Split volume floor → (f : Figures) → writeCall m n nonzeros list Parts f out ≡ write-answer.Written (length (textOf m n nonzeros list Parts f))
+      unfolding writeCall answerWritten lengthAnswer
+      split-written volume floor e f =
+          let fine = read-writes text listRoom partsRoom m n nonzeros _ read-is Parts (parts-fine m n nonzeros list cap budget capped within partsRoom parts-room volume floor e) in
+          let written = textOf m n nonzeros list Parts f in
+          ap (λ (v : Verdict). answerWritten v written out) fine
+          ∙ pick-false
+          (write-answer.Refused ShortBuffer 0)
+          (write-answer.Written (length written))
+          (le-ltb (length out) (length written) (omega (arith, room, text-short (fine-split m n nonzeros list Parts fine) f)))
+
+      shown-tells : (a : ShowAnswer) → Answer ≡ a → refusalIn (afterShowing a After m n nonzeros list Parts out) ≡ 0
+      unfolding afterShowing afterWriting
+      shown-tells (show-answer.Split volume floor) e =
+          let f = figuresOf After volume floor in
+          ap (λ (w : WriteAnswer). refusalIn (afterWriting w (textOf m n nonzeros list Parts f))) (split-written volume floor e f)
+          ∙ split-tells m n nonzeros list Parts f
+      shown-tells (show-answer.NoneYet floor) e = none-tells (After .cap) (After .tries) floor
+      shown-tells (show-answer.Refused word place) e =
+          refused-not (sym (told m n nonzeros list cap budget capped within partsRoom .refused word place .0 e) ∙ shows m n nonzeros list cap budget capped within partsRoom parts-room)
+
+      run-tells : (done : Bool) → refusalIn (afterRun (ended done) After m n nonzeros list out) ≡ 0
+      unfolding ended afterRun searchText
+      run-tells true = shown-tells Answer refl
+      run-tells false = shown-tells Answer refl
+
+      pub text-answered : refusalIn (patternText text percent budget out) ≡ 0
+      text-answered =
+          ap refusalIn (after-run ∙ ap (λ (a : RunAnswer). afterRun a After m n nonzeros list out) (run-ended m n nonzeros list cap budget capped within))
+          ∙ run-tells _

@@ -1,0 +1,114 @@
+-- What the program refuses: 3 for its first line, what the text is refused for, 11 for E, 13 for B, and nothing else.
+-- So it refuses 11 for E alone, and never 12.
+-- Assumes nothing.
+use mathlib.Core.Bool.{Bool, false, not}
+use mathlib.Core.List.{List}
+use mathlib.Core.Path.{_≡_, refl, sym, ap, subst}
+use Prim.Native.Nat.{ℕ, _≤_, _<_}
+use native.Mathlib.Omega.{arith}
+use lib.Dec.{eqb, ltb}
+use lib.ListN.{length, drop}
+use borrow.Author.Tests.{ltb-true, ltb-false, eqb-false, not-true, not-false}
+use Rattle.counting.specs.Tests.{_or_}
+use Rattle.counting.proofs.Joined.{by-test, pick-true, pick-false, or-fails-right}
+use Rattle.model.specs.declared.Word.{Word}
+use Rattle.model.specs.declared.Word.the-variants.{EntryForm, Cap, Budget}
+use Rattle.model.specs.declared.Verdict.{Verdict}
+use Rattle.model.specs.declared.Verdict.the-variants.{Refused}
+use Rattle.model.specs.Limits.{percentLimit, budgetLimit}
+use Rattle.model.specs.Refusal.{refusalNumber}
+use Rattle.model.proofs.Theorems.Checks.{refuse-no}
+use Rattle.model.proofs.Theorems.Spared.{Spares, accepted-spares, refuse-spares, fewer-spares, _also_}
+use Rattle.model.proofs.Theorems.Capped.{forCap, wordForCap, cap-words}
+use Rattle.texts.specs.Header.{headerOf}
+use Rattle.texts.specs.Reading.{nonzerosIn, answerRead, readVerdict, cellsOf, readCall, readList}
+use Rattle.writing.specs.Lines.{refusedText}
+use Rattle.readback.proofs.Spared.{read-spares}
+use Rattle.answering.specs.FirstLine.{commandOf}
+use Rattle.answering.specs.Answer.{listRoom, partsRoom, afterReading, patternText, answerText}
+use Rattle.answering.specs.Printing.{outputRoom}
+use Rattle.answering.specs.Refusing.{patternVerdict, splitVerdict, refusalIn, Tells}
+use Rattle.answering.proofs.Telling.{tells-then, tells-check, tells-last, tells-number}
+use Rattle.answering.proofs.AfterReading.{percent-refused, budget-refused, text-answered}
+
+-- a text that is refused
+text-refused :
+    (text : List ℕ) (percent budget : ℕ) (out : List ℕ) (word : Word) (place : ℕ) → readVerdict text listRoom partsRoom ≡ Refused word place →
+    patternText text percent budget out ≡ refusedText word place
+unfolding patternText readCall answerRead afterReading
+text-refused text percent budget out word place e =
+    ap
+    (λ (v : Verdict). afterReading (answerRead v (headerOf text) (nonzerosIn (headerOf text) (cellsOf text))) (readList text listRoom partsRoom) percent budget out)
+    e
+
+-- what follows the first line
+text-tells : (text : List ℕ) (percent budget : ℕ) (out : List ℕ) → outputRoom ≤ length out → Tells (patternVerdict text percent budget) (patternText text percent budget out)
+unfolding patternVerdict
+text-tells text percent budget out room =
+    tells-then
+    (readVerdict text listRoom partsRoom)
+    _
+    (text-refused text percent budget out)
+    (λ read. tells-check
+    (ltb percentLimit percent)
+    Cap
+    0
+    _
+    (λ high. percent-refused text percent budget out read (ltb-true percentLimit percent high))
+    (λ low. tells-last
+    (ltb budgetLimit budget)
+    Budget
+    0
+    (λ over. budget-refused text percent budget out read (ltb-false percentLimit percent low) (ltb-true budgetLimit budget over))
+    (λ within. text-answered text percent budget out read (ltb-false percentLimit percent low) (ltb-false budgetLimit budget within) room)))
+
+-- the program refuses what its checks refuse, and nothing else
+pub split-refuses : (input out : List ℕ) → outputRoom ≤ length out → Tells (splitVerdict input) (answerText input out)
+unfolding splitVerdict answerText
+split-refuses input out room =
+    let o = commandOf input in
+    let text = drop (o .next) input in
+    let answer = patternText text (o .percent) (o .budget) out in
+    tells-check
+    (not (o .fine))
+    EntryForm
+    0
+    _
+    (λ wrong. pick-false answer (refusedText EntryForm 0) (not-true (o .fine) wrong))
+    (λ right. subst
+    (Tells (patternVerdict text (o .percent) (o .budget)))
+    (sym (pick-true answer (refusedText EntryForm 0) (not-false (o .fine) right)))
+    (text-tells text (o .percent) (o .budget) out room))
+
+-- of the program's checks only that of E refuses for a cap, and it refuses 11
+module _ (input : List ℕ) where
+  abbrev isNoSplit : Word → Bool
+  isNoSplit word = eqb (refusalNumber word) 12
+
+  low-spares : ltb percentLimit (commandOf input .percent) ≡ false → Spares wordForCap (splitVerdict input)
+  unfolding splitVerdict patternVerdict forCap _or_
+  low-spares low =
+      refuse-spares _ EntryForm _ refl
+      also (read-spares _ listRoom partsRoom also (rw (refuse-no Cap 0 low) accepted-spares also refuse-spares _ Budget _ refl))
+
+  all-spare : Spares isNoSplit (splitVerdict input)
+  unfolding splitVerdict patternVerdict forCap
+  all-spare =
+      refuse-spares _ EntryForm _ refl
+      also (fewer-spares (λ word h. or-fails-right (eqb (refusalNumber word) 11) (eqb (refusalNumber word) 12) h) (read-spares _ listRoom partsRoom) also (refuse-spares _ Cap _ refl also refuse-spares _ Budget _ refl))
+
+  module _ (out : List ℕ) (room : outputRoom ≤ length out) where
+    -- 11 for E alone
+    pub percent-alone : refusalIn (answerText input out) ≡ 11 → percentLimit < commandOf input .percent
+    percent-alone e =
+        let r = tells-number (splitVerdict input) (answerText input out) 11 (split-refuses input out room) e (omega arith) in
+        by-test
+        (ltb percentLimit (commandOf input .percent))
+        (ltb-true percentLimit (commandOf input .percent))
+        (λ low. absurd (cap-words (refusalNumber (r .0)) (low-spares low .spared (r .0) (r .1) (r .2)) .0 (r .3)))
+
+    -- never 12
+    pub no-split-never : refusalIn (answerText input out) ≡ 12 → ⊥
+    no-split-never e =
+        let r = tells-number (splitVerdict input) (answerText input out) 12 (split-refuses input out room) e (omega arith) in
+        eqb-false (refusalNumber (r .0)) 12 (all-spare .spared (r .0) (r .1) (r .2)) (r .3)
