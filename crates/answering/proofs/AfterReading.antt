@@ -2,7 +2,7 @@
 -- Assumes nothing.
 use mathlib.Core.Bool.{Bool, true, false}
 use mathlib.Core.List.{List}
-use mathlib.Core.Path.{_≡_, refl, sym, _∙_, ap}
+use mathlib.Core.Path.{_≡_, refl, sym, _∙_, ap, subst}
 use Prim.Native.Nat.{ℕ, _≤_, _<_}
 use native.Mathlib.Omega.{arith}
 use lib.ListN.{length, length-replicate}
@@ -38,9 +38,8 @@ use Rattle.readback.proofs.Short.{text-short}
 use Rattle.readback.proofs.AnyText.{read-list-fine, read-writes}
 use Rattle.answering.specs.Answer.{listRoom, partsRoom, figuresOf, afterWriting, afterShowing, searchText, afterRun, ranText, afterOpening, openedText, afterCap, patternText}
 use Rattle.answering.specs.Printing.{outputRoom}
-use Rattle.answering.specs.Refusing.{refusalIn}
+use Rattle.answering.specs.Refusing.{NoRefusal, split, none-yet}
 use Rattle.answering.proofs.SameNonzeros.{text-read}
-use Rattle.answering.proofs.Telling.{none-tells, split-tells}
 
 -- a text that is read, after a first line that is right
 module _ (text : List ℕ) (percent budget : ℕ) (out : List ℕ) (accepted : readVerdict text listRoom partsRoom ≡ Accepted) where
@@ -120,22 +119,24 @@ module _ (text : List ℕ) (percent budget : ℕ) (out : List ℕ) (accepted : r
           (write-answer.Written (length written))
           (le-ltb (length out) (length written) (omega (arith, room, text-short (fine-split m n nonzeros list Parts fine) f)))
 
-      shown-tells : (a : ShowAnswer) → Answer ≡ a → refusalIn (afterShowing a After m n nonzeros list Parts out) ≡ 0
+      shown-tells : (a : ShowAnswer) → Answer ≡ a → NoRefusal (afterShowing a After m n nonzeros list Parts out)
       unfolding afterShowing afterWriting
       shown-tells (show-answer.Split volume floor) e =
           let f = figuresOf After volume floor in
-          ap (λ (w : WriteAnswer). refusalIn (afterWriting w (textOf m n nonzeros list Parts f))) (split-written volume floor e f)
-          ∙ split-tells m n nonzeros list Parts f
-      shown-tells (show-answer.NoneYet floor) e = none-tells (After .cap) (After .tries) floor
+          split m n nonzeros list Parts f
+          (ap (λ (w : WriteAnswer). afterWriting w (textOf m n nonzeros list Parts f)) (split-written volume floor e f))
+      shown-tells (show-answer.NoneYet floor) e = none-yet (After .cap) (After .tries) floor refl
       shown-tells (show-answer.Refused word place) e =
           refused-not (sym (told m n nonzeros list cap budget capped within partsRoom .refused word place .0 e) ∙ shows m n nonzeros list cap budget capped within partsRoom parts-room)
 
-      run-tells : (done : Bool) → refusalIn (afterRun (ended done) After m n nonzeros list out) ≡ 0
+      run-tells : (done : Bool) → NoRefusal (afterRun (ended done) After m n nonzeros list out)
       unfolding ended afterRun searchText
       run-tells true = shown-tells Answer refl
       run-tells false = shown-tells Answer refl
 
-      pub text-answered : refusalIn (patternText text percent budget out) ≡ 0
+      pub text-answered : NoRefusal (patternText text percent budget out)
       text-answered =
-          ap refusalIn (after-run ∙ ap (λ (a : RunAnswer). afterRun a After m n nonzeros list out) (run-ended m n nonzeros list cap budget capped within))
-          ∙ run-tells _
+          subst
+          NoRefusal
+          (sym (after-run ∙ ap (λ (a : RunAnswer). afterRun a After m n nonzeros list out) (run-ended m n nonzeros list cap budget capped within)))
+          (run-tells _)

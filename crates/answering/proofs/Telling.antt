@@ -21,7 +21,7 @@ use Rattle.writing.specs.Written.{decimals, numberText, figureText, headText, t
 use Rattle.writing.specs.Lines.{#refused, #at, refusedText, noneText}
 use Rattle.writing.proofs.Held.{Holds, holds-left, holds-itself}
 use Rattle.writing.proofs.Back.{number-first}
-use Rattle.answering.specs.Refusing.{refusalIn, Tells}
+use Rattle.answering.specs.Refusing.{refusalIn, NoRefusal, split, none-yet, Tells}
 
 -- a refusal's number is read off its line
 module _ (word : Word) (place : ℕ) where
@@ -54,13 +54,17 @@ module _ (word : Word) (place : ℕ) where
       ∙ ap (λ x. x .value) (number-first line 8 (length line) number held (omega (arith, number-range word .1)) inside)
 
 -- "none yet" and a split are no refusals
-pub none-tells : (cap tries floor : ℕ) → refusalIn (noneText cap tries floor) ≡ 0
+none-tells : (cap tries floor : ℕ) → refusalIn (noneText cap tries floor) ≡ 0
 unfolding noneText figureText refusalIn sameWord spells past cased pick _and_
 none-tells cap tries floor = refl
 
-pub split-tells : (m n nonzeros : ℕ) (list parts : List ℕ) (f : Figures) → refusalIn (textOf m n nonzeros list parts f) ≡ 0
+split-tells : (m n nonzeros : ℕ) (list parts : List ℕ) (f : Figures) → refusalIn (textOf m n nonzeros list parts f) ≡ 0
 unfolding textOf headText refusalIn sameWord spells past cased pick _and_
 split-tells m n nonzeros list parts f = refl
+
+pub no-number : {answer : List ℕ} → NoRefusal answer → refusalIn answer ≡ 0
+no-number (split m n nonzeros list parts f e) = ap refusalIn e ∙ split-tells m n nonzeros list parts f
+no-number (none-yet cap tries floor e) = ap refusalIn e ∙ none-tells cap tries floor
 
 -- an answer tells the first of two verdicts that refuses
 pub tells-then :
@@ -79,7 +83,7 @@ tells-check false word place w refused accepted = accepted refl
 
 pub tells-last :
     {answer : List ℕ} (test : Bool) (word : Word) (place : ℕ) → (test ≡ true → answer ≡ refusedText word place) →
-    (test ≡ false → refusalIn answer ≡ 0) → Tells (refuse test word place) answer
+    (test ≡ false → NoRefusal answer) → Tells (refuse test word place) answer
 unfolding refuse
 tells-last true word place refused accepted = refused refl
 tells-last false word place refused accepted = accepted refl
@@ -88,5 +92,5 @@ tells-last false word place refused accepted = accepted refl
 pub tells-number :
     (v : Verdict) (answer : List ℕ) (number : ℕ) → Tells v answer → refusalIn answer ≡ number → 1 ≤ number →
     (word : Word) × (place : ℕ) × (v ≡ Refused word place) × (refusalNumber word ≡ number)
-tells-number Accepted answer number h e some = no-way (omega arith)
+tells-number Accepted answer number h e some = no-way (omega (arith, no-number h))
 tells-number (Refused word place) answer number h e some = (word, place, refl, sym (number-in word place) ∙ ap refusalIn (sym h) ∙ e)

@@ -14,7 +14,9 @@ use Rattle.model.specs.Limits.{percentLimit, budgetLimit}
 use Rattle.model.specs.Refusal.{refuse, _then_}
 use Rattle.scanning.specs.Words.{sameWord, numberAt}
 use Rattle.texts.specs.Reading.{readVerdict}
-use Rattle.writing.specs.Lines.{#refused, refusedText}
+use Rattle.writing.specs.declared.Figures.{Figures}
+use Rattle.writing.specs.Written.{textOf}
+use Rattle.writing.specs.Lines.{#refused, refusedText, noneText}
 use Rattle.answering.specs.FirstLine.{commandOf}
 use Rattle.answering.specs.Answer.{listRoom, partsRoom}
 
@@ -36,7 +38,12 @@ splitVerdict input =
 unfoldable pub refusalIn : List ℕ → ℕ
 refusalIn answer = pick (sameWord answer 0 8 false #refused) (numberAt answer 8 (length answer) .value) 0
 
+-- an answer that refuses nothing: a split, or "none yet"
+pub data NoRefusal (answer : List ℕ) : Type 0 where
+  split : (m n nonzeros : ℕ) (list parts : List ℕ) (f : Figures) → answer ≡ textOf m n nonzeros list parts f → NoRefusal answer
+  none-yet : (cap tries floor : ℕ) → answer ≡ noneText cap tries floor → NoRefusal answer
+
 -- an answer that tells a verdict: the line of the refusal, or no refusal
 abbrev pub Tells : Verdict → List ℕ → Type 0
-Tells Accepted answer = refusalIn answer ≡ 0
+Tells Accepted answer = NoRefusal answer
 Tells (Refused word place) answer = answer ≡ refusedText word place
