@@ -21,7 +21,7 @@ use Rattle.model.specs.Split.{capFromPercent}
 use Rattle.model.specs.Calls.{listVerdict, openVerdict, capCall, openCall, ended}
 use Rattle.model.proofs.Theorems.Accepted.{list-accepted}
 use Rattle.model.proofs.Theorems.Checks.{refused-not}
-use Rattle.model.proofs.Theorems.Capped.{cap-given, cap-refused, capped-opens}
+use Rattle.model.proofs.Theorems.Capped.{percent-opens, cap-given, cap-refused}
 use Rattle.search.proofs.OneRun.{Run, run-refused, run-ended, Shown, Left, told, shows, parts-fine}
 use Rattle.scanning.specs.Words.{isInteger}
 use Rattle.texts.specs.declared.ReadAnswer.the-variants as read-answer
@@ -79,7 +79,7 @@ module _ (text : List ℕ) (percent budget : ℕ) (out : List ℕ) (accepted : r
     cap = capFromPercent nonzeros percent
 
     capped : openVerdict m n nonzeros list cap ≡ Accepted
-    capped = capped-opens nonzeros percent cap (cap-given nonzeros percent few low) m n list ∙ listed
+    capped = percent-opens m n nonzeros list percent few low ∙ listed
 
     abbrev After : Search
     After = Run m n nonzeros list cap budget capped .search

@@ -1,25 +1,24 @@
 -- What the program refuses: 3 for its first line, what the text is refused for, 11 for E, 13 for B, and nothing else.
 -- So it refuses 11 for E alone, and never 12.
 -- Assumes nothing.
-use mathlib.Core.Bool.{Bool, false, not}
+use mathlib.Core.Bool.{true, not}
 use mathlib.Core.List.{List}
-use mathlib.Core.Path.{_≡_, refl, sym, ap, subst}
+use mathlib.Core.Path.{_≡_, refl, sym, _∙_, ap, subst}
 use Prim.Native.Nat.{ℕ, _≤_, _<_}
 use native.Mathlib.Omega.{arith}
-use lib.Dec.{eqb, ltb}
+use lib.Dec.{ltb}
 use lib.ListN.{length, drop}
-use borrow.Author.Tests.{ltb-true, ltb-false, eqb-false, not-true, not-false}
+use borrow.Author.Tests.{ltb-true, ltb-false, not-true, not-false}
 use Rattle.counting.specs.Tests.{_or_}
-use Rattle.counting.proofs.Joined.{by-test, pick-true, pick-false, or-fails-right}
+use Rattle.counting.proofs.Joined.{no-way, pick-true, pick-false}
 use Rattle.model.specs.declared.Word.{Word}
 use Rattle.model.specs.declared.Word.the-variants.{EntryForm, Cap, Budget}
 use Rattle.model.specs.declared.Verdict.{Verdict}
 use Rattle.model.specs.declared.Verdict.the-variants.{Refused}
 use Rattle.model.specs.Limits.{percentLimit, budgetLimit}
-use Rattle.model.specs.Refusal.{refusalNumber}
-use Rattle.model.proofs.Theorems.Checks.{refuse-no}
-use Rattle.model.proofs.Theorems.Spared.{Spares, accepted-spares, refuse-spares, fewer-spares, _also_}
-use Rattle.model.proofs.Theorems.Capped.{forCap, wordForCap, cap-words}
+use Rattle.model.specs.Refusal.{refusalNumber, refuse, _then_}
+use Rattle.model.proofs.Theorems.Checks.{then-assoc}
+use Rattle.model.proofs.Theorems.Spared.{refuse-spares, _also_, between-spared, forCap, wordForCap}
 use Rattle.texts.specs.Header.{headerOf}
 use Rattle.texts.specs.Reading.{nonzerosIn, answerRead, readVerdict, cellsOf, readCall, readList}
 use Rattle.writing.specs.Lines.{refusedText}
@@ -80,35 +79,39 @@ split-refuses input out room =
     (sym (pick-true answer (refusedText EntryForm 0) (not-false (o .fine) right)))
     (text-tells text (o .percent) (o .budget) out room))
 
--- of the program's checks only that of E refuses for a cap, and it refuses 11
 module _ (input : List ℕ) where
-  abbrev isNoSplit : Word → Bool
-  isNoSplit word = eqb (refusalNumber word) 12
-
-  low-spares : ltb percentLimit (commandOf input .percent) ≡ false → Spares wordForCap (splitVerdict input)
+  -- of the program's checks only that of E refuses for a cap
+  cap-alone : (word : Word) (place : ℕ) → splitVerdict input ≡ Refused word place → wordForCap word ≡ true → (percentLimit < commandOf input .percent) × (Cap ≡ word)
   unfolding splitVerdict patternVerdict forCap _or_
-  low-spares low =
-      refuse-spares _ EntryForm _ refl
-      also (read-spares _ listRoom partsRoom also (rw (refuse-no Cap 0 low) accepted-spares also refuse-spares _ Budget _ refl))
-
-  all-spare : Spares isNoSplit (splitVerdict input)
-  unfolding splitVerdict patternVerdict forCap
-  all-spare =
-      refuse-spares _ EntryForm _ refl
-      also (fewer-spares (λ word h. or-fails-right (eqb (refusalNumber word) 11) (eqb (refusalNumber word) 12) h) (read-spares _ listRoom partsRoom) also (refuse-spares _ Cap _ refl also refuse-spares _ Budget _ refl))
+  cap-alone word place e h =
+      let first = refuse (not (commandOf input .fine)) EntryForm 0 in
+      let read = readVerdict (drop (commandOf input .next) input) listRoom partsRoom in
+      let r =
+      between-spared
+      (first then read)
+      _
+      _
+      Cap
+      0
+      word
+      place
+      (refuse-spares _ EntryForm _ refl also read-spares _ listRoom partsRoom)
+      (refuse-spares _ Budget _ refl)
+      (then-assoc first read _ ∙ e)
+      h in
+      (ltb-true percentLimit (commandOf input .percent) (r .0), r .1)
 
   module _ (out : List ℕ) (room : outputRoom ≤ length out) where
     -- 11 for E alone
     pub percent-alone : refusalIn (answerText input out) ≡ 11 → percentLimit < commandOf input .percent
+    unfolding forCap _or_
     percent-alone e =
         let r = tells-number (splitVerdict input) (answerText input out) 11 (split-refuses input out room) e (omega arith) in
-        by-test
-        (ltb percentLimit (commandOf input .percent))
-        (ltb-true percentLimit (commandOf input .percent))
-        (λ low. absurd (cap-words (refusalNumber (r .0)) (low-spares low .spared (r .0) (r .1) (r .2)) .0 (r .3)))
+        cap-alone (r .0) (r .1) (r .2) (ap forCap (r .3)) .0
 
     -- never 12
     pub no-split-never : refusalIn (answerText input out) ≡ 12 → ⊥
+    unfolding forCap _or_
     no-split-never e =
         let r = tells-number (splitVerdict input) (answerText input out) 12 (split-refuses input out room) e (omega arith) in
-        eqb-false (refusalNumber (r .0)) 12 (all-spare .spared (r .0) (r .1) (r .2)) (r .3)
+        no-way (omega (arith, r .3, ap refusalNumber (cap-alone (r .0) (r .1) (r .2) (ap forCap (r .3)) .1)))

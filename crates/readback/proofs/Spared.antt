@@ -10,8 +10,7 @@ use Rattle.counting.specs.Tests.{_or_, pick}
 use Rattle.model.specs.declared.Word.the-variants.{Banner, SizeLine, EntryForm, TooBig, OffMatrix, Repeated, Count, BadPart, ShortBuffer, NotSquare, AboveDiagonal}
 use Rattle.model.specs.declared.Verdict.{Verdict}
 use Rattle.model.specs.declared.Verdict.the-variants.{Accepted, Refused}
-use Rattle.model.proofs.Theorems.Spared.{Spares, accepted-spares, refused-spares, refuse-spares, _also_, pick-spares}
-use Rattle.model.proofs.Theorems.Capped.{forCap, wordForCap, sizes-spare}
+use Rattle.model.proofs.Theorems.Spared.{Spares, accepted-spares, refused-spares, refuse-spares, _also_, pick-spares, forCap, wordForCap, sizes-spare}
 use Rattle.scanning.specs.Checks.{moved}
 use Rattle.scanning.specs.declared.Numbers.{Numbers}
 use Rattle.texts.specs.declared.Header.{Header}

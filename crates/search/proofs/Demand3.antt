@@ -152,7 +152,8 @@ module _ (m n nonzeros : ℕ) (list : List ℕ) (cap : ℕ) (accepted : openVerd
   unfolding openedAfter walked walk
   opened-is = refl
 
-  opened-none : walked P cap 0 .tries ≡ 0
+  -- it has made no tries
+  pub opened-none : walked P cap 0 .tries ≡ 0
   unfolding walked walk freshOf
   opened-none = fresh-tries (P .m) (P .n) (P .size) cap (lineTotal P)
 

@@ -1,15 +1,13 @@
 -- An accepted opening, one run and a showing: the run is refused for its budget alone, and the showing for the room of its parts alone.
 -- Demand 3 says what the showing answered and left, with the walk's record after the budget.
 -- Assumes nothing.
-use mathlib.Core.Bool.{Bool, true, false, not}
+use mathlib.Core.Bool.{true, not}
 use mathlib.Core.List.{List}
-use mathlib.Core.Path.{_≡_, refl, _∙_, ap, subst}
-use Prim.Native.Nat.{ℕ, _+_, _≤_, _<_}
+use mathlib.Core.Path.{_≡_, refl, sym, _∙_, ap, subst}
+use Prim.Native.Nat.{ℕ, _≤_, _<_}
 use native.Mathlib.Omega.{arith}
-use lib.Dec.{ltb}
 use lib.ListN.{length, getD}
-use borrow.Author.Tests.{ltb-false, lt-ltb, le-ltb}
-use Rattle.counting.specs.Tests.{_or_}
+use borrow.Author.Tests.{le-ltb}
 use Rattle.model.specs.declared.Part.{Part}
 use Rattle.model.specs.declared.Part.the-variants.{Zero, One}
 use Rattle.model.specs.declared.Word.the-variants.{BadPart, ShortBuffer, Budget, State}
@@ -20,22 +18,23 @@ use Rattle.model.specs.declared.RunAnswer.the-variants as run-answer
 use Rattle.model.specs.declared.Ran.{Ran}
 use Rattle.model.specs.declared.ShowAnswer.{ShowAnswer}
 use Rattle.model.specs.declared.ShowAnswer.the-variants as show-answer
-use Rattle.model.specs.Limits.{budgetLimit, triesLimit}
+use Rattle.model.specs.Limits.{budgetLimit}
 use Rattle.model.specs.Refusal.{refuse, _then_}
-use Rattle.model.specs.Pattern.{Pattern, patternOf, lineTotal}
+use Rattle.model.specs.Pattern.{Pattern, patternOf}
 use Rattle.model.specs.Split.{partNumber}
-use Rattle.model.specs.Walk.{Record, rulesOf, freshOf, walk, walked}
+use Rattle.model.specs.Walk.{Record, rulesOf, walked}
 use Rattle.model.specs.State.{recordOf, stateFine}
 use Rattle.model.specs.Calls.{listVerdict, openVerdict, runVerdict, showVerdict, openCall, ended, ranRecord, ranAfter, runCall, shownFrom, showCall, showParts}
-use Rattle.model.proofs.Walk.Reached.{walk-for}
-use Rattle.model.proofs.Walk.Ending.{fresh-tries}
-use Rattle.model.proofs.Theorems.Checks.{refuse-so, refuse-no, then-accepted, each-fine}
+use Rattle.model.proofs.Theorems.Checks.{refuse-no, then-accepted, each-fine}
 use Rattle.model.proofs.Theorems.Accepted.{open-accepted}
 use Rattle.model.proofs.Theorems.OfList.{size-of}
 use Rattle.pattern.specs.Measures.{partVerdict, partsVerdict}
+use Rattle.search.specs.Running.{budgetBy}
 use Rattle.search.specs.History.{acceptedBudget, Handed, handedSlice, History, opened, ran, showed}
 use Rattle.search.specs.Demand.{Demand, ShowAnswered}
-use Rattle.search.proofs.Demand3.{ended-budget, demand-3}
+use Rattle.search.proofs.Budgets.{budget-over, budget-taken}
+use Rattle.search.proofs.Points.{walked-cap}
+use Rattle.search.proofs.Demand3.{ended-budget, opened-none, demand-3}
 
 -- a part's byte is 0 or 1
 part-byte : (byte : ℕ) (p : Part) → byte ≡ partNumber p → byte ≤ 1
@@ -53,15 +52,6 @@ module _ (m n nonzeros : ℕ) (list : List ℕ) (cap budget : ℕ) (opens : open
   listed : listVerdict m n nonzeros list ≡ Accepted
   listed = open-accepted m n nonzeros list cap opens .listed
 
-  -- the walk's cap is the opening's
-  cap-kept : (tries : ℕ) → after tries .cap ≡ cap
-  unfolding walked freshOf rulesOf
-  cap-kept tries = walk-for (rulesOf P cap) (P .m) (P .n) (P .size) cap tries .limit
-
-  none-tried : after 0 .tries ≡ 0
-  unfolding walked walk freshOf
-  none-tried = fresh-tries (P .m) (P .n) (P .size) cap (lineTotal P)
-
   -- a state of the walk passes the checks of its list and of its state
   state-passes :
       (tries : ℕ) → stateFine (rulesOf P cap) m n nonzeros (after tries) ≡ true →
@@ -73,7 +63,7 @@ module _ (m n nonzeros : ℕ) (list : List ℕ) (cap budget : ℕ) (opens : open
       ∙ refuse-no
       State
       0
-      (ap not (ap (λ (c : ℕ). stateFine (rulesOf P c) m n nonzeros (after tries)) (cap-kept tries) ∙ fine))
+      (ap not (ap (λ (c : ℕ). stateFine (rulesOf P c) m n nonzeros (after tries)) (walked-cap m n nonzeros list cap opens tries) ∙ fine))
 
   -- the opening
   opens-call : openCall m n nonzeros list cap .verdict ≡ Accepted
@@ -91,35 +81,28 @@ module _ (m n nonzeros : ℕ) (list : List ℕ) (cap budget : ℕ) (opens : open
   handed = handedSlice m n nonzeros list list (λ i below. refl)
 
   -- the run: of its checks only that of its budget can refuse
-  budget-test : (b : Bool) → ltb budgetLimit budget ≡ b → (b or ltb triesLimit (after 0 .tries + budget)) ≡ b
-  unfolding _or_
-  budget-test true e = refl
-  budget-test false e = le-ltb triesLimit (after 0 .tries + budget) (omega (arith, none-tried, ltb-false budgetLimit budget e))
-
-  runs : runVerdict (after 0) m n nonzeros list budget ≡ refuse (ltb budgetLimit budget) Budget 0
-  unfolding runVerdict
-  runs =
-      then-accepted _ (state-passes 0 (at-start .fine))
-      ∙ ap (λ (b : Bool). refuse b Budget 0) (budget-test (ltb budgetLimit budget) refl)
+  runs : runVerdict (after 0) m n nonzeros list budget ≡ budgetBy (after 0 .tries) budget
+  unfolding runVerdict budgetBy
+  runs = then-accepted _ (state-passes 0 (at-start .fine))
 
   abbrev pub Run : Ran
   Run = runCall (openCall m n nonzeros list cap .search) m n nonzeros list budget
 
-  run-is : (v : Verdict) → refuse (ltb budgetLimit budget) Budget 0 ≡ v → Run ≡ ranAfter v (openCall m n nonzeros list cap .search) P budget
+  run-is : (v : Verdict) → v ≡ budgetBy (after 0 .tries) budget → Run ≡ ranAfter v (openCall m n nonzeros list cap .search) P budget
   run-is v e =
       at-start .run-is handed budget
-      ∙ ap (λ (v : Verdict). ranAfter v (openCall m n nonzeros list cap .search) P budget) (runs ∙ e)
+      ∙ ap (λ (v : Verdict). ranAfter v (openCall m n nonzeros list cap .search) P budget) (runs ∙ sym e)
 
   -- a budget over its range is refused 13
   pub run-refused : budgetLimit < budget → Run .answer ≡ run-answer.Refused Budget 0
   unfolding ranAfter
-  run-refused over = ap (λ (a : Ran). a .answer) (run-is (Refused Budget 0) (refuse-so Budget 0 (lt-ltb budgetLimit budget over)))
+  run-refused over = ap (λ (a : Ran). a .answer) (run-is (Refused Budget 0) (budget-over _ budget over))
 
   -- with one in its range the run is accepted
   module _ (within : budget ≤ budgetLimit) where
     pub run-ended : Run .answer ≡ ended (ranRecord (recordOf (openCall m n nonzeros list cap .search)) P budget .complete)
     unfolding ranAfter
-    run-ended = ap (λ (a : Ran). a .answer) (run-is Accepted (refuse-no Budget 0 (le-ltb budgetLimit budget within)))
+    run-ended = ap (λ (a : Ran). a .answer) (run-is Accepted (budget-taken _ budget within (omega (arith, opened-none m n nonzeros list cap opens))))
 
     counts : acceptedBudget (Run .answer) budget ≡ budget
     counts = ap (λ (a : RunAnswer). acceptedBudget a budget) run-ended ∙ ended-budget _ budget

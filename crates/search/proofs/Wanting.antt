@@ -4,7 +4,7 @@
 use mathlib.Core.Bool.{Bool, true, false}
 use mathlib.Core.List.{List}
 use mathlib.Core.Logic.{_↔_}
-use mathlib.Core.Path.{_≡_, refl, sym, _∙_, ap}
+use mathlib.Core.Path.{_≡_, refl, sym, _∙_}
 use Prim.Native.Nat.{ℕ, _*_}
 use native.Mathlib.Omega.{arith}
 use lib.Dec.{ltb}
@@ -19,8 +19,8 @@ use Rattle.model.specs.Refusal.{refuse, _then_}
 use Rattle.model.specs.Pattern.{patternOf}
 use Rattle.model.specs.Calls.{listVerdict, openVerdict}
 use Rattle.model.proofs.Theorems.Accepted.{open-accepted}
-use Rattle.model.proofs.Theorems.Spared.{Spares}
-use Rattle.model.proofs.Theorems.Capped.{forCap, wordForCap, list-spares}
+use Rattle.model.proofs.Theorems.Checks.{refuse-no, then-accepted}
+use Rattle.model.proofs.Theorems.Spared.{Spares, forCap, wordForCap, list-spares}
 use Rattle.model.proofs.Theorems.Least.{split-exists}
 use Rattle.search.specs.Demand.{Within, Splits}
 
@@ -42,20 +42,13 @@ refused-within m n nonzeros list cap e =
     let w = behind (listVerdict m n nonzeros list) (ltb capLimit cap) (ltb (2 * cap) nonzeros) (list-spares m n nonzeros list) e in
     record { listed = w .0; capped = ltb-false capLimit cap (w .1) }
 
--- checks that refuse nothing leave the last
-within-cap : (over : Bool) (v : Verdict) → over ≡ false → Accepted then refuse over Cap 0 then v ≡ v
-unfolding _then_ refuse
-within-cap true v h = clash refl h
-within-cap false v h = refl
-
 -- within the limits only 12 can refuse the opening
 within-verdict :
     (m n nonzeros : ℕ) (list : List ℕ) (cap : ℕ) → Within m n nonzeros list cap →
     openVerdict m n nonzeros list cap ≡ refuse (ltb (2 * cap) nonzeros) NoSplit 0
 unfolding openVerdict
 within-verdict m n nonzeros list cap w =
-    ap (λ (v : Verdict). v then refuse (ltb capLimit cap) Cap 0 then refuse (ltb (2 * cap) nonzeros) NoSplit 0) (w .listed)
-    ∙ within-cap (ltb capLimit cap) (refuse (ltb (2 * cap) nonzeros) NoSplit 0) (le-ltb capLimit cap (w .capped))
+    then-accepted _ (then-accepted _ (w .listed) ∙ refuse-no Cap 0 (le-ltb capLimit cap (w .capped)))
 
 -- the refusal for want of a split
 refused-exactly : (over : Bool) → (refuse over NoSplit 0 ≡ Refused NoSplit 0) ↔ (over ≡ true)

@@ -4,23 +4,24 @@ use mathlib.Core.Path.{sym}
 use native.Mathlib.Omega.{arith}
 use native.Mathlib.Nat.{mul-le-mul}
 use Prim.Native.Nat.{ℕ, _*_, _^_, _≤_, _<_}
-use borrow.Author.Tests.{lt-ltb, le-ltb}
-use Rattle.model.specs.Refusal.{refuse, _then_}
-use Rattle.model.specs.Calls.{capCall, capAfter, capVerdict}
 use Rattle.model.specs.Split.{ceilingHalf, capFromPercent}
-use Rattle.model.proofs.Theorems.Capped.{cap-given}
+use Rattle.model.proofs.Theorems.Capped.{cap-too-big, cap-given, cap-refused}
 use Rattle.model.proofs.Theorems.Replies.{cap-told}
 use borrow.Author.Needs.{needs}
 use Rattle.pattern.proofs.cap.cap_from_percent.Statement.{statement}
 use Rattle.pattern.proofs.cap.cap_from_percent.Tie as tie
 
 returns : tie.Need-returns
-unfolding capCall capVerdict capAfter _then_ refuse
-returns c = cap-told (c .before .args .nonzeros) (c .before .args .percent) (simp (lt-ltb _ _ (c .if1 .taken)))
+returns c =
+    let nonzeros = c .before .args .nonzeros in
+    let percent = c .before .args .percent in
+    cap-told nonzeros percent (sym (cap-too-big nonzeros percent (c .if1 .taken)))
 
 returns-2 : tie.Need-returns-2
-unfolding capCall capVerdict capAfter _then_ refuse
-returns-2 c = cap-told (c .before .before .args .nonzeros) (c .before .before .args .percent) (simp (le-ltb _ _ (c .before .if1 .left), lt-ltb _ _ (c .if2 .taken)))
+returns-2 c =
+    let nonzeros = c .before .before .args .nonzeros in
+    let percent = c .before .before .args .percent in
+    cap-told nonzeros percent (sym (cap-refused nonzeros percent (c .before .if1 .left) (c .if2 .taken)))
 
 add-t6 : tie.Need-add-t6
 add-t6 c = search needs
