@@ -4,66 +4,14 @@
 // Usage: compare_texts PROGRAM [CASES [SEED]]. The last line is
 // "N compared, 0 differ".
 #include "random_texts.hpp"
+#include "running.hpp"
 
-#include <cstdio>
-#include <cstdlib>
 #include <iostream>
 #include <map>
-
-#include <spawn.h>
-#include <sys/wait.h>
-#include <unistd.h>
-
-extern char** environ;
 
 namespace {
 
 constexpr size_t runs_at_once = 8;
-
-// One run of the program, on files that are used again for the next.
-struct Run {
-    std::FILE* input = std::tmpfile();
-    std::FILE* output = std::tmpfile();
-    pid_t process = -1;
-};
-
-[[noreturn]] void give_up(const char* what) {
-    std::perror(what);
-    std::exit(2);
-}
-
-void refill(std::FILE* file, const std::string& bytes) {
-    int descriptor = fileno(file);
-    bool done = ftruncate(descriptor, 0) == 0 && lseek(descriptor, 0, SEEK_SET) == 0 &&
-                write(descriptor, bytes.data(), bytes.size()) == ssize_t(bytes.size()) &&
-                lseek(descriptor, 0, SEEK_SET) == 0;
-    if (!done) give_up("temporary file");
-}
-
-void start(Run& run, char* program, const std::string& input) {
-    refill(run.input, input);
-    refill(run.output, "");
-    posix_spawn_file_actions_t actions;
-    posix_spawn_file_actions_init(&actions);
-    posix_spawn_file_actions_adddup2(&actions, fileno(run.input), 0);
-    posix_spawn_file_actions_adddup2(&actions, fileno(run.output), 1);
-    char* words[] = {program, nullptr};
-    if (posix_spawn(&run.process, program, &actions, nullptr, words, environ) != 0)
-        give_up(program);
-    posix_spawn_file_actions_destroy(&actions);
-}
-
-// What the program wrote, or words in place of it where it did not end well.
-std::string finish(Run& run) {
-    int status = 0;
-    if (waitpid(run.process, &status, 0) != run.process) give_up("wait");
-    if (status != 0) return "ended with status " + std::to_string(status) + "\n";
-    int descriptor = fileno(run.output);
-    std::string bytes(size_t(lseek(descriptor, 0, SEEK_END)), 0);
-    if (pread(descriptor, bytes.data(), bytes.size(), 0) != ssize_t(bytes.size()))
-        give_up("temporary file");
-    return bytes;
-}
 
 struct Tally {
     uint64_t compared = 0, differing = 0;

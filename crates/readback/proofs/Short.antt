@@ -9,7 +9,7 @@ use Rattle.model.specs.Pattern.{rowIn, columnIn}
 use Rattle.writing.specs.declared.Figures.{Figures}
 use Rattle.writing.specs.Written.{sizesText, entryText, entriesText, headText, bodyText, textOf}
 use Rattle.writing.proofs.Puttings.{sizes-short, head-short}
-use Rattle.writing.proofs.Held.{decimals-fit}
+use Rattle.writing.proofs.Decimals.{decimals-fit}
 use Rattle.writing.proofs.Back.{sizes-length}
 use Rattle.readback.proofs.Accepted.{Fine}
 use Rattle.readback.proofs.Lines.{entries-none, entries-length}

@@ -19,7 +19,8 @@ use Rattle.scanning.specs.Lines.{stretchesAt, stretchEnd, lineStop, hasReturn, 
 use Rattle.scanning.specs.Words.{numberAt, endsAt, numbersAt}
 use Rattle.scanning.proofs.Scans.{stretch-here, stretch-over, stretch-on, end-without, next-more}
 use Rattle.writing.specs.Written.{decimals, numberText, sizesText}
-use Rattle.writing.proofs.Held.{Holds, holds-left, holds-right, every, every-at, stretch-whole, digit-class, decimals-every, decimals-some, number-back}
+use Rattle.writing.proofs.Decimals.{decimals-some}
+use Rattle.writing.proofs.Held.{Holds, holds-left, holds-right, every, every-at, stretch-whole, digit-class, decimals-every, number-back}
 
 -- the bytes of a line: neither LF nor CR
 unfoldable pub plain : ℕ → Bool

@@ -17,7 +17,8 @@ use Rattle.scanning.proofs.Scans.{size-here}
 use Rattle.texts.specs.Header.{headerOf}
 use Rattle.writing.specs.declared.Figures.{Figures}
 use Rattle.writing.specs.Written.{decimals, numberText, sizesText, #first-line, commentText, entriesText, headText, bodyText, textOf}
-use Rattle.writing.proofs.Held.{Holds, holds-left, holds-right, holds-itself, every-at, digit-class, decimals-every, decimals-some}
+use Rattle.writing.proofs.Decimals.{decimals-some}
+use Rattle.writing.proofs.Held.{Holds, holds-left, holds-right, holds-itself, every-at, digit-class, decimals-every}
 use Rattle.writing.proofs.Back.{lineOver, sizes-length}
 use Rattle.writing.proofs.Top.{first-end, first-next, banner-back, commentBody, comment-body, comment-skipped}
 use Rattle.writing.proofs.Rows.{row-next, row-filled, row-numbers}

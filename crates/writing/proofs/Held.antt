@@ -1,6 +1,6 @@
 -- What a text holds from a place on, and how stretches and numbers go over it: the ground for reading back what was written.
 -- Assumes nothing.
-use mathlib.Core.Bool.{Bool, true, false}
+use mathlib.Core.Bool.{Bool, true}
 use mathlib.Core.List.{List, [], _∷_, _++_}
 use mathlib.Core.Path.{_≡_, refl, sym, _∙_, ap}
 use Prim.Native.Nat.{ℕ, zero, suc, _+_, _-_, _*_, _/_, _%_, _^_, _≤_, _<_}
@@ -10,7 +10,7 @@ use lib.Dec.{ltb}
 use lib.ListN.{length, getD, length-append, List·getD-append}
 use lib.Seq.{getD-append-add}
 use borrow.Author.Tests.{ltb-true, lt-ltb, le-leb, eq-eqb}
-use Rattle.counting.specs.Tests.{_and_, _or_, pick}
+use Rattle.counting.specs.Tests.{_and_, pick}
 use Rattle.counting.proofs.Joined.{by-test, no-way, and-left, and-right, and-intro, pick-true, pick-false}
 use Rattle.scanning.specs.declared.Class.the-variants.{Digit}
 use Rattle.scanning.specs.declared.Stretch.{Stretch}
@@ -20,6 +20,7 @@ use Rattle.scanning.specs.Lines.{stretchesAt, stretchEnd}
 use Rattle.scanning.specs.Words.{isNumber, valueOf, numberValue, wordAt, numberAt}
 use Rattle.scanning.proofs.Scans.{between-in, stretch-on, stretch-over, value-more, value-some}
 use Rattle.writing.specs.Written.{decimals}
+use Rattle.writing.proofs.Decimals.{higher, decimals-are, higher-none, higher-some, decimals-zero, decimals-some, decimals-fit}
 
 -- a text holds these bytes from a place on
 pub record Holds (text : List ℕ) (at : ℕ) (bytes : List ℕ) : Type 0 where
@@ -110,22 +111,6 @@ at-end : (xs : List ℕ) (x : ℕ) → getD (xs ++ (x ∷ [])) (length xs) 0 ≡
 at-end [] x = refl
 at-end (y ∷ xs) x = at-end xs x
 
--- the digits before the last
-unfoldable higher : ℕ → ℕ → List ℕ
-higher k n = pick (ltb n 10) [] (decimals k (n / 10))
-
-decimals-are : (k n : ℕ) → decimals (suc k) n ≡ higher k n ++ ((48 + n % 10) ∷ [])
-unfolding decimals higher
-decimals-are k n = refl
-
-higher-none : (k n : ℕ) → ltb n 10 ≡ true → higher k n ≡ []
-unfolding higher
-higher-none k n e = pick-true [] (decimals k (n / 10)) e
-
-higher-some : (k n : ℕ) → ltb n 10 ≡ false → higher k n ≡ decimals k (n / 10)
-unfolding higher
-higher-some k n e = pick-false [] (decimals k (n / 10)) e
-
 pub holds-as : {text s t : List ℕ} {at : ℕ} → s ≡ t → Holds text at s → Holds text at t
 holds-as e h = rw e at h
 
@@ -144,10 +129,6 @@ value-last text digits from d l h =
 value-none : (text : List ℕ) (from : ℕ) → valueOf text from 0 ≡ 0
 unfolding valueOf
 value-none text from = refl
-
-decimals-zero : (n : ℕ) → decimals 0 n ≡ []
-unfolding decimals
-decimals-zero n = refl
 
 -- the value of the digits that were written is the number
 pub value-written :
@@ -171,23 +152,6 @@ value-written text from (suc k) n h l =
     ap (λ x. valueOf text from (length x) * 10 + n % 10) (higher-some k n e)
     ∙ ap (λ x. x * 10 + n % 10) v
     ∙ div-add-mod' n 10)
-
--- a number below a power of ten has no more digits, and every number has one
-higher-length : (k n : ℕ) → length (decimals (suc k) n) ≡ length (higher k n) + 1
-higher-length k n = ap length (decimals-are k n) ∙ length-append (higher k n) ((48 + n % 10) ∷ [])
-
-pub decimals-some : (k n : ℕ) → 1 ≤ length (decimals (suc k) n)
-decimals-some k n = omega (arith, higher-length k n)
-
-pub decimals-fit : (k j n : ℕ) → n < 10 ^ suc j → length (decimals k n) ≤ suc j
-decimals-fit zero j n l = omega (arith, ap length (decimals-zero n))
-decimals-fit (suc k) zero n l =
-    omega (arith, higher-length k n, pow-suc 10 0, pow-zero 10, ap length (higher-none k n (lt-ltb n 10 (omega (arith, pow-suc 10 0, pow-zero 10)))))
-decimals-fit (suc k) (suc j) n l =
-    by-test
-    (ltb n 10)
-    (λ e. omega (arith, higher-length k n, ap length (higher-none k n e)))
-    (λ e. omega (arith, higher-length k n, ap length (higher-some k n e), decimals-fit k j (n / 10) (omega (arith, div-add-mod' n 10, pow-suc 10 (suc j)))))
 
 -- what stretches do at a digit
 digit-goes : (stretch : Stretch) (d : ℕ) → d < 10 → stretchesOver stretch Digit ≡ true → stretchesOver stretch (classOf (48 + d)) ≡ true

@@ -1,3 +1,6 @@
+pub mod Decimals
+pub mod Padded
+pub mod Powers
 pub mod Puttings
 pub mod Answers
 pub mod Held

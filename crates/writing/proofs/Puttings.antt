@@ -2,18 +2,18 @@
 -- Assumes nothing.
 use mathlib.Core.List.{List, [], _∷_, _++_}
 use mathlib.Core.Path.{_≡_, refl, sym, _∙_, ap}
-use Prim.Native.Nat.{ℕ, zero, suc, _+_, _-_, _/_, _%_, _≤_, _<_}
+use Prim.Native.Nat.{ℕ, suc, _+_, _≤_, _<_}
 use native.Mathlib.Numerals.{add-one}
 use native.Mathlib.Omega.{arith}
-use lib.Dec.{eqb, ltb}
+use lib.Dec.{eqb}
 use lib.ListN.{length, take, getD, set, length-append}
-use lib.Seq.{sets, take-suc, take-all, length-sets}
-use borrow.Author.Tests.{lt-ltb, le-ltb, eq-eqb, ne-eqb}
-use Rattle.counting.specs.Tests.{pick}
+use lib.Seq.{sets, set-out, take-suc, take-all, length-sets}
+use borrow.Author.Tests.{eq-eqb, ne-eqb}
 use Rattle.counting.proofs.Joined.{by-test, pick-true, pick-false}
 use Rattle.model.specs.Pattern.{rowIn, columnIn}
 use Rattle.writing.specs.declared.Figures.{Figures}
 use Rattle.writing.specs.Written.{Puts, decimals, numberText, figureText, #volume, #cap, #tries, #floor, #stopped, #complete, #first-line, endingText, commentText, sizesText, entryText, entriesText, headText, bodyText, textOf}
+use Rattle.writing.proofs.Decimals.{decimals-short}
 
 -- a text put after another
 pub sets-append : (vs ws l : List ℕ) (i : ℕ) → sets l i (vs ++ ws) ≡ sets (sets l i vs) (i + length vs) ws
@@ -40,38 +40,18 @@ puts-then {page} {first} {last} {s} {t} {at} {mid} {next} p q =
           q .bytes ∙ ap (λ x. sets x mid t) (p .bytes) ∙ ap (λ k. sets (sets page at s) k t) (p .after) ∙ sym (sets-append s t page at);
     }
 
+-- past the end of a page nothing is put
+sets-past : (text page : List ℕ) (at : ℕ) → length page ≤ at → sets page at text ≡ page
+sets-past [] page at l = refl
+sets-past (b ∷ text) page at l =
+    ap (λ x. sets x (suc at) text) (set-out page at b l) ∙ sets-past text page (suc at) (omega arith)
+
+pub puts-past : (page text : List ℕ) (at count : ℕ) → length page ≤ at → count ≡ length text → Puts page at text page (at + count)
+puts-past page text at count l e = record { after = ap (λ x. at + x) e; bytes = sym (sets-past text page at l) }
+
 -- another text that is equal
 pub puts-as : {page new s t : List ℕ} {at next : ℕ} → s ≡ t → Puts page at s new next → Puts page at t new next
 puts-as e p = rw e at p
-
--- digits
-pub decimals-none : (n k : ℕ) → k ≡ 0 → [] ≡ decimals k n
-unfolding decimals
-decimals-none n k e = rw e
-
-pub decimals-last : (n k : ℕ) → (k ≡ 0 → ⊥) → n < 10 → ((48 + n % 10) ∷ []) ≡ decimals k n
-unfolding decimals
-decimals-last n zero h l = absurd (h refl)
-decimals-last n (suc k) h l =
-    sym (ap (λ x. x ++ ((48 + n % 10) ∷ [])) (pick-true [] (decimals k (n / 10)) (lt-ltb n 10 l)))
-
-pub decimals-more : (n k : ℕ) → (k ≡ 0 → ⊥) → 10 ≤ n → decimals (k - 1) (n / 10) ++ ((48 + n % 10) ∷ []) ≡ decimals k n
-unfolding decimals
-decimals-more n zero h l = absurd (h refl)
-decimals-more n (suc k) h l =
-    let e : suc k - 1 ≡ k = omega arith in
-    ap (λ x. decimals x (n / 10) ++ ((48 + n % 10) ∷ [])) e
-    ∙ sym (ap (λ x. x ++ ((48 + n % 10) ∷ [])) (pick-false [] (decimals k (n / 10)) (le-ltb n 10 l)))
-
--- so many digits take so many bytes at most
-pub decimals-short : (k n : ℕ) → length (decimals k n) ≤ k
-unfolding decimals
-decimals-short zero n = omega arith
-decimals-short (suc k) n =
-    by-test
-    (ltb n 10)
-    (λ e. omega (arith, length-append (pick (ltb n 10) [] (decimals k (n / 10))) ((48 + n % 10) ∷ []), ap length (pick-true [] (decimals k (n / 10)) e)))
-    (λ e. omega (arith, length-append (pick (ltb n 10) [] (decimals k (n / 10))) ((48 + n % 10) ∷ []), ap length (pick-false [] (decimals k (n / 10)) e), decimals-short k (n / 10)))
 
 pub number-short : (n b : ℕ) → length (numberText n b) ≤ 21
 unfolding numberText
@@ -83,7 +63,7 @@ sizes-short m n nonzeros =
     omega
     (arith, length-append (numberText m 32) (numberText n 32 ++ numberText nonzeros 10), length-append (numberText n 32) (numberText nonzeros 10), number-short m 32, number-short n 32, number-short nonzeros 10)
 
--- the place after so many digits, and after a number
+-- the place after a number's digits, and after the number
 pub decimals-room : (k n : ℕ) {page new : List ℕ} {at next : ℕ} → Puts page at (decimals k n) new next → next ≤ at + k
 decimals-room k n {page} {new} {at} {next} p = omega (arith, p .after, decimals-short k n)
 
@@ -112,22 +92,15 @@ pub puts-all :
     (page new bytes : List ℕ) (at i : ℕ) → length bytes ≤ i → Puts page at (take i bytes) new (at + i) → Puts page at bytes new (at + i)
 puts-all page new bytes at i l p = puts-as (take-all i bytes l) p
 
--- digits put one after another
-module _ (page : List ℕ) (at n k digit : ℕ) (d : digit ≡ 48 + n % 10) (some : k ≡ 0 → ⊥) where
-  pub puts-last : (new : List ℕ) → n < 10 → new ≡ set page at digit → Puts page at (decimals k n) new (at + 1)
-  puts-last new l e =
-      puts-as (ap (λ x. x ∷ []) d ∙ decimals-last n k some l) (puts-byte page new at digit e)
+-- who puts the rest of a text here puts all of it there
+abbrev pub Leads : List ℕ → ℕ → List ℕ → List ℕ → ℕ → List ℕ → Type 0
+Leads here next rest page at text = (new : List ℕ) (end : ℕ) → Puts here next rest new end → Puts page at text new end
 
-  pub puts-more :
-      (now new : List ℕ) (next : ℕ) → 10 ≤ n → Puts page at (decimals (k - 1) (n / 10)) now next → new ≡ set now next digit →
-      Puts page at (decimals k n) new (next + 1)
-  puts-more now new next l p e =
-      puts-as
-      (ap (λ x. decimals (k - 1) (n / 10) ++ (x ∷ [])) d ∙ decimals-more n k some l)
-      (puts-then p (puts-byte now new next digit e))
-
-pub puts-zero : (page : List ℕ) (at n k : ℕ) → k ≡ 0 → Puts page at (decimals k n) page at
-puts-zero page at n k e = puts-as (decimals-none n k e) (puts-none page at)
+pub leads-on :
+    {here more text rest page whole : List ℕ} {next at : ℕ} (b : ℕ) → Leads here next text page at whole → text ≡ b ∷ rest → more ≡ set here next b →
+    Leads more (next + 1) rest page at whole
+leads-on {here} {more} {text} {rest} {page} {whole} {next} b leads e put =
+    λ new end p. leads new end (puts-as (sym e) (puts-then (puts-byte here more next b put) p))
 
 pub puts-number :
     (page now new : List ℕ) (at n b next : ℕ) → Puts page at (decimals 20 n) now next → new ≡ set now next b →

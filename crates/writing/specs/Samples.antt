@@ -59,7 +59,15 @@ back-parts : readParts printed (replicate 4 9) (replicate 2 9) ≡ apart
 unfolding computing
 back-parts = refl
 
--- 0 is one digit, and the largest figure has twenty
+-- 0 is one digit, a number that ends in zeros has each of them, and the largest figure has twenty digits
+shortest : decimals 20 0 ≡ 48 ∷ []
+unfolding decimals pick
+shortest = refl
+
+with-zeros : decimals 20 1_000 ≡ 49 ∷ 48 ∷ 48 ∷ 48 ∷ []
+unfolding decimals pick
+with-zeros = refl
+
 longest : length (numberText 18_446_744_073_709_551_615 32) ≡ 21
 unfolding numberText decimals pick
 longest = refl

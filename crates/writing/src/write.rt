@@ -3,6 +3,7 @@
 use crate::Figures;
 use crate::WriteAnswer;
 use crate::checks::write_verdict;
+use digits::put_decimal;
 use model::Verdict;
 use model::Word;
 use pattern::reading::byte_at;
@@ -12,44 +13,20 @@ use pattern::reading::put;
 use pattern::reading::row_of;
 use pattern::reading::wide16;
 ghost use mathlib.Core.Path.{_≡_};
-ghost use Prim.Native.Nat.{_+_, _%_, _<_};
+ghost use Prim.Native.Nat.{_<_};
 ghost use lib.ListN.{length};
-ghost use Rattle.writing.specs.Written.{Puts, decimals, numberText, figureText, entryText, entriesText, endingText, commentText, sizesText, headText, bodyText, textOf};
+ghost use Rattle.writing.specs.Written.{Puts, numberText, figureText, entryText, entriesText, endingText, commentText, sizesText, headText, bodyText, textOf};
 ghost use Rattle.writing.specs.Writing.{lengthAnswer, textOut, writeCall, writeOut, writeReply, writeReplies};
 
+mod digits;
 pub mod lines;
-
-// The last decimal digit of a number.
-fn digit_byte(n: u64) -> u8
-    ensures { λ r. ⌜ r ≡ 48 + n % 10 ⌝ }
-{
-    48 + ((n % 10) as u8)
-}
-
-// The last k decimal digits of a number, without leading zeros.
-fn put_decimal(page: &mut [u8], at: usize, n: u64, k: u8) -> usize
-    requires { ⌜ at < 4294967296 ⌝ }
-    ensures { λ r. ⌜ Puts (now (page .entry)) at (decimals k n) (now (page .exit)) r ⌝ }
-{
-    if k == 0 {
-        return at;
-    }
-    let digit = digit_byte(n);
-    if n < 10 {
-        put(page, at, digit);
-        return at + 1;
-    }
-    let next = put_decimal(page, at, n / 10, k - 1);
-    put(page, next, digit);
-    next + 1
-}
 
 // A number and the byte after it.
 fn put_number(page: &mut [u8], at: usize, n: u64, b: u8) -> usize
     requires { ⌜ at < 4294967296 ⌝ }
     ensures { λ r. ⌜ Puts (now (page .entry)) at (numberText n b) (now (page .exit)) r ⌝ }
 {
-    let next = put_decimal(page, at, n, 20);
+    let next = put_decimal(page, at, n);
     put(page, next, b);
     next + 1
 }
