@@ -46,12 +46,11 @@ struct Program {
 }  // namespace
 
 int main(int count, char** words) {
-    if (count < 3) {
-        std::printf("usage: writing BEFORE AFTER [LISTINGS]\n");
+    uint64_t listings = count > 3 ? std::strtoull(words[3], nullptr, 10) : 5000;
+    if (count < 3 || listings < 1 || listings > 9999999) {
+        std::printf("usage: writing BEFORE AFTER [LISTINGS], with 1 to 9,999,999 listings\n");
         return 2;
     }
-    uint64_t listings = count > 3 ? std::strtoull(words[3], nullptr, 10) : 5000;
-    if (listings < 1 || listings > 9999999) listings = 5000;
     std::string input = order(listings), expected = listing_with(UINT64_MAX);
     Program programs[] = {{"before", words[1], {}}, {"after", words[2], {}}};
     Run run;

@@ -28,7 +28,7 @@ loop-holds c =
     let a = c .before .before .args in
     let few = decimals-short 20 (a .n) in
     let counted = c .before .before .pre .1 in
-    (omega (arith, few, counted), rw (counted) (decimals-below 20 _ (omega arith)), omega (arith, few, counted), refl, λ new end p. puts-as (rw counted (sym (decimals-padded 20 (a .n)))) p)
+    (omega (arith, few, counted), rw counted (decimals-below 20 _ (omega arith)), omega (arith, few, counted), refl, λ new end p. puts-as (rw counted (sym (decimals-padded 20 (a .n)))) p)
 
 sub-k : tie.Need-sub-k Inv-loop μ-loop
 sub-k c = search needs
@@ -46,7 +46,7 @@ put-requires : tie.Need-put-requires Inv-loop μ-loop
 put-requires c κs = search needs
 
 add-next : tie.Need-add-next Inv-loop μ-loop
-add-next c = record { fits = omega (arith, (c .before .before .before .before .before .before .loop .inv .2), c .before .before .before .before .before .before .before .before .before .pre .0) }
+add-next c = record { fits = omega (arith, c .before .before .before .before .before .before .loop .inv .2, c .before .before .before .before .before .before .before .before .before .pre .0) }
 
 loop-less : tie.Need-loop-less Inv-loop μ-loop
 loop-less c = omega (arith, c .before .before .before .before .before .loop-test .taken)
