@@ -16,7 +16,7 @@ namespace {
 constexpr int rounds = 9;
 
 // Rows of 17 nonzeros, one in each seven columns; columns and parts follow no
-// short period, so that no digit can be guessed from those before.
+// short period, so that their digits are not easily guessed from those before.
 std::string listing_with(uint64_t figure) {
     std::vector<uint8_t> bytes, parts;
     for (int at = 0; at < 2000; ++at) {

@@ -217,7 +217,7 @@ digit-small b =
     (λ e. let h = leb-true b 57 (and-right (leb 48 b) (leb b 57) e) in omega (arith, pick-true (b - 48) 0 e))
     (λ e. omega (arith, pick-false (b - 48) 0 e))
 
-pub value-more : (text : List ℕ) (from k : ℕ) → valueOf text from (k + 1) ≡ valueOf text from k * 10 + digitOf (getD text (from + k) 0)
+value-more : (text : List ℕ) (from k : ℕ) → valueOf text from (k + 1) ≡ valueOf text from k * 10 + digitOf (getD text (from + k) 0)
 unfolding valueOf
 value-more text from k = rw add-one
 

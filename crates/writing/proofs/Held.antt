@@ -3,24 +3,24 @@
 use mathlib.Core.Bool.{Bool, true}
 use mathlib.Core.List.{List, [], _∷_, _++_}
 use mathlib.Core.Path.{_≡_, refl, sym, _∙_, ap}
-use Prim.Native.Nat.{ℕ, zero, suc, _+_, _-_, _*_, _/_, _%_, _^_, _≤_, _<_}
+use Prim.Native.Nat.{ℕ, zero, suc, _+_, _-_, _/_, _%_, _^_, _≤_, _<_}
 use native.Mathlib.Nat.{mod-lt, div-add-mod', pow-suc, pow-zero}
 use native.Mathlib.Omega.{arith}
-use lib.Dec.{ltb}
 use lib.ListN.{length, getD, length-append, List·getD-append}
 use lib.Seq.{getD-append-add}
-use borrow.Author.Tests.{ltb-true, lt-ltb, le-leb, eq-eqb}
-use Rattle.counting.specs.Tests.{_and_, pick}
-use Rattle.counting.proofs.Joined.{by-test, no-way, and-left, and-right, and-intro, pick-true, pick-false}
+use borrow.Author.Tests.{lt-ltb, le-leb, eq-eqb}
+use Rattle.counting.specs.Tests.{_and_}
+use Rattle.counting.proofs.Joined.{no-way, and-left, and-right, and-intro, pick-true}
 use Rattle.scanning.specs.declared.Class.the-variants.{Digit}
 use Rattle.scanning.specs.declared.Stretch.{Stretch}
 use Rattle.scanning.specs.declared.Stretch.the-variants.{Blanks, Nonblanks, Digits}
 use Rattle.scanning.specs.Classes.{classOf, stretchesOver, digitOf}
 use Rattle.scanning.specs.Lines.{stretchesAt, stretchEnd}
 use Rattle.scanning.specs.Words.{isNumber, valueOf, numberValue, wordAt, numberAt}
-use Rattle.scanning.proofs.Scans.{between-in, stretch-on, stretch-over, value-more, value-some}
+use Rattle.scanning.proofs.Scans.{between-in, stretch-on, stretch-over, value-some}
 use Rattle.writing.specs.Written.{decimals}
-use Rattle.writing.proofs.Decimals.{higher, decimals-are, higher-none, higher-some, decimals-zero, decimals-some, decimals-fit}
+use Rattle.writing.proofs.Decimals.{decimals-some, decimals-fit, decimals-below}
+use Rattle.writing.proofs.Padded.{padded, length-padded, decimals-padded}
 
 -- a text holds these bytes from a place on
 pub record Holds (text : List ℕ) (at : ℕ) (bytes : List ℕ) : Type 0 where
@@ -91,20 +91,16 @@ digit-value d l =
     pick-true (48 + d - 48) 0 (between-in 48 57 (48 + d) (omega arith) (omega arith)) ∙ e
 
 -- the digits of a number are digits, and no other class
+padded-every :
+    (test : ℕ → Bool) → ((d : ℕ) → d < 10 → test (48 + d) ≡ true) → (k n : ℕ) → every test (padded k n) ≡ true
+unfolding padded every
+padded-every test h zero n = refl
+padded-every test h (suc k) n =
+    every-append test (padded k (n / 10)) ((48 + n % 10) ∷ []) (padded-every test h k (n / 10)) (and-intro (h (n % 10) (mod-lt n (omega arith))) refl)
+
 pub decimals-every :
     (test : ℕ → Bool) → ((d : ℕ) → d < 10 → test (48 + d) ≡ true) → (k n : ℕ) → every test (decimals k n) ≡ true
-unfolding decimals every
-decimals-every test h zero n = refl
-decimals-every test h (suc k) n =
-    every-append
-    test
-    (pick (ltb n 10) [] (decimals k (n / 10)))
-    ((48 + n % 10) ∷ [])
-    (by-test
-    (ltb n 10)
-    (λ e. ap (every test) (pick-true [] (decimals k (n / 10)) e))
-    (λ e. ap (every test) (pick-false [] (decimals k (n / 10)) e) ∙ decimals-every test h k (n / 10)))
-    (and-intro (h (n % 10) (mod-lt n (omega arith))) refl)
+decimals-every test h k n = ap (every test) (decimals-padded k n) ∙ padded-every test h (length (decimals k n)) n
 
 -- the last of some bytes
 at-end : (xs : List ℕ) (x : ℕ) → getD (xs ++ (x ∷ [])) (length xs) 0 ≡ x
@@ -114,44 +110,24 @@ at-end (y ∷ xs) x = at-end xs x
 pub holds-as : {text s t : List ℕ} {at : ℕ} → s ≡ t → Holds text at s → Holds text at t
 holds-as e h = rw e at h
 
--- a digit more
-value-last :
-    (text digits : List ℕ) (from d : ℕ) → d < 10 → Holds text from (digits ++ ((48 + d) ∷ [])) →
-    valueOf text from (length (digits ++ ((48 + d) ∷ []))) ≡ valueOf text from (length digits) * 10 + d
-value-last text digits from d l h =
-    let size : length (digits ++ ((48 + d) ∷ [])) ≡ length digits + 1 = length-append digits ((48 + d) ∷ []) in
-    let there = h .at-each (length digits) (omega arith) ∙ at-end digits (48 + d) in
-    ap (valueOf text from) size
-    ∙ value-more text from (length digits)
-    ∙ ap (λ x. valueOf text from (length digits) * 10 + digitOf x) there
-    ∙ ap (λ x. valueOf text from (length digits) * 10 + x) (digit-value d l)
-
-value-none : (text : List ℕ) (from : ℕ) → valueOf text from 0 ≡ 0
-unfolding valueOf
-value-none text from = refl
-
 -- the value of the digits that were written is the number
+value-padded : (text : List ℕ) (from k n : ℕ) → Holds text from (padded k n) → n < 10 ^ k → valueOf text from k ≡ n
+unfolding padded valueOf
+value-padded text from zero n h l = omega (arith, pow-zero 10)
+value-padded text from (suc k) n h l =
+    let before = padded k (n / 10) in
+    let size = length-padded k (n / 10) in
+    let value = value-padded text from k (n / 10) (holds-left before ((48 + n % 10) ∷ []) h) (omega (arith, pow-suc 10 k)) in
+    let there : getD text (from + k) 0 ≡ 48 + n % 10 =
+    ap (λ x. getD text (from + x) 0) (sym size)
+    ∙ h .at-each (length before) (omega (arith, length-append before ((48 + n % 10) ∷ [])))
+    ∙ at-end before (48 + n % 10) in
+    omega (arith, value, div-add-mod' n 10, ap digitOf there ∙ digit-value (n % 10) (mod-lt n (omega arith)))
+
 pub value-written :
     (text : List ℕ) (from k n : ℕ) → Holds text from (decimals k n) → n < 10 ^ k → valueOf text from (length (decimals k n)) ≡ n
-value-written text from zero n h l =
-    let z : n ≡ 0 = omega (arith, pow-zero 10) in
-    ap (λ x. valueOf text from (length x)) (decimals-zero n) ∙ value-none text from ∙ sym z
-value-written text from (suc k) n h l =
-    let small = mod-lt n {m = 10} (omega arith) in
-    let parts = decimals-are k n in
-    let held = holds-as parts h in
-    ap (λ x. valueOf text from (length x)) parts
-    ∙ value-last text (higher k n) from (n % 10) small held
-    ∙ by-test
-    (ltb n 10)
-    (λ e. let b = ltb-true n 10 e in
-    ap (λ x. valueOf text from (length x) * 10 + n % 10) (higher-none k n e)
-    ∙ ap (λ x. x * 10 + n % 10) (value-none text from)
-    ∙ omega (arith, div-add-mod' n 10))
-    (λ e. let v = value-written text from k (n / 10) (holds-as (higher-some k n e) (holds-left (higher k n) ((48 + n % 10) ∷ []) held)) (omega (arith, div-add-mod' n 10, pow-suc 10 k)) in
-    ap (λ x. valueOf text from (length x) * 10 + n % 10) (higher-some k n e)
-    ∙ ap (λ x. x * 10 + n % 10) v
-    ∙ div-add-mod' n 10)
+value-written text from k n h l =
+    value-padded text from (length (decimals k n)) n (holds-as (decimals-padded k n) h) (decimals-below k n l)
 
 -- what stretches do at a digit
 digit-goes : (stretch : Stretch) (d : ℕ) → d < 10 → stretchesOver stretch Digit ≡ true → stretchesOver stretch (classOf (48 + d)) ≡ true

@@ -4,31 +4,34 @@ use mathlib.Core.List.{List, [], _∷_, _++_}
 use mathlib.Core.Path.{_≡_, refl, sym, _∙_, ap}
 use Prim.Native.Nat.{ℕ, zero, suc, _+_, _-_, _*_, _/_, _%_, _^_, _≤_, _<_}
 use native.Mathlib.Nat.{mul-assoc, mod-lt, div-add-mod', div-lt-iff-lt-mul, one-le-pow, pow-suc, pow-zero}
-use native.Mathlib.Numerals.{add-one}
 use native.Mathlib.Omega.{arith}
-use lib.Dec.{ltb}
 use lib.ListN.{length}
-use Rattle.counting.proofs.Joined.{by-test, no-way}
+use Rattle.counting.proofs.Joined.{no-way}
 use Rattle.writing.specs.Written.{decimals}
-use Rattle.writing.proofs.Decimals.{higher, decimals-are, higher-none, higher-some, decimals-zero, higher-length}
+use Rattle.writing.proofs.Decimals.{decimals-zero, decimals-either, digit-after}
 
 -- so many last digits, leading zeros with them
 unfoldable pub padded : ℕ → ℕ → List ℕ
 padded zero n = []
 padded (suc k) n = padded k (n / 10) ++ ((48 + n % 10) ∷ [])
 
-higher-padded : (k n : ℕ) → decimals k (n / 10) ≡ padded (length (decimals k (n / 10))) (n / 10) → higher k n ≡ padded (length (higher k n)) (n / 10)
+pub length-padded : (k n : ℕ) → length (padded k n) ≡ k
 unfolding padded
-higher-padded k n before =
-    by-test (ltb n 10) (λ e. cc (higher-none k n e)) (λ e. cc (before, higher-some k n e))
+length-padded zero n = refl
+length-padded (suc k) n = digit-after (padded k (n / 10)) (48 + n % 10) ∙ ap suc (length-padded k (n / 10))
 
+-- a number's digits are so many
 pub decimals-padded : (k n : ℕ) → decimals k n ≡ padded (length (decimals k n)) n
 unfolding padded
 decimals-padded zero n = rw decimals-zero
 decimals-padded (suc k) n =
-    decimals-are k n
-    ∙ ap (λ x. x ++ ((48 + n % 10) ∷ [])) (higher-padded k n (decimals-padded k (n / 10)))
-    ∙ sym (ap (λ x. padded x n) (higher-length k n ∙ add-one (length (higher k n))))
+    decimals-either
+    (λ x. x ≡ padded (length x) n)
+    k
+    n
+    (λ l. refl)
+    (λ l. ap (λ x. x ++ ((48 + n % 10) ∷ [])) (decimals-padded k (n / 10))
+    ∙ sym (ap (λ x. padded x n) (digit-after (decimals k (n / 10)) (48 + n % 10))))
 
 -- a digit times a power of ten, and what is below the power
 padded-with :

@@ -64,8 +64,8 @@ sizes-short m n nonzeros =
     (arith, length-append (numberText m 32) (numberText n 32 ++ numberText nonzeros 10), length-append (numberText n 32) (numberText nonzeros 10), number-short m 32, number-short n 32, number-short nonzeros 10)
 
 -- the place after a number's digits, and after the number
-pub decimals-room : (k n : ℕ) {page new : List ℕ} {at next : ℕ} → Puts page at (decimals k n) new next → next ≤ at + k
-decimals-room k n {page} {new} {at} {next} p = omega (arith, p .after, decimals-short k n)
+pub decimals-room : (n : ℕ) {page new : List ℕ} {at next : ℕ} → Puts page at (decimals 20 n) new next → next ≤ at + 20
+decimals-room n {page} {new} {at} {next} p = omega (arith, p .after, decimals-short 20 n)
 
 pub number-room : (n b : ℕ) {page new : List ℕ} {at next : ℕ} → Puts page at (numberText n b) new next → next ≤ at + 21
 number-room n b {page} {new} {at} {next} p = omega (arith, p .after, number-short n b)

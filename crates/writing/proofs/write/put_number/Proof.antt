@@ -13,7 +13,7 @@ put-requires : tie.Need-put-requires
 put-requires c κs = search needs
 
 add-result : tie.Need-add-result
-add-result c = omega (arith, decimals-room _ _ (c .before .before .before .before .before .before .put-decimal .ensures))
+add-result c = omega (arith, decimals-room _ (c .before .before .before .before .before .before .put-decimal .ensures))
 
 same-length : tie.Need-same-length
 same-length c = search needs
