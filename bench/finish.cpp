@@ -21,12 +21,12 @@ int main(int count, char** words) {
     std::vector<uint8_t> bytes(2 * most_nonzeros), parts(most_nonzeros);
     TextContent content;
     Record record;
-    uint64_t cap = 0;
+    Capped capped;
     Answer answer = read_text(text, bytes.data(), bytes.size(), parts.data(), parts.size(), content);
     List list{content.rows, content.columns, content.nonzeros, bytes.data(), bytes.size()};
     uint64_t percent = std::strtoull(words[1], nullptr, 10);
-    if (!answer.refused()) answer = cap_from_percent(content.nonzeros, percent, cap);
-    if (!answer.refused()) answer = open(list, cap, record);
+    if (!answer.refused()) answer = cap_from_percent(content.nonzeros, percent, capped);
+    if (!answer.refused()) answer = open(list, capped.cap, record);
     while (!answer.refused() && !record.complete) answer = run(walk, list, record, most_budget);
     Shown shown;
     if (!answer.refused()) answer = show(walk, list, record, parts.data(), parts.size(), shown);
@@ -35,8 +35,8 @@ int main(int count, char** words) {
                     (unsigned long long)answer.place);
         return 1;
     }
-    std::printf("volume %llu cap %llu tries %llu floor %llu complete, %.2f processor seconds\n",
-                (unsigned long long)shown.volume, (unsigned long long)cap,
-                (unsigned long long)record.tries, (unsigned long long)shown.floor,
-                double(std::clock()) / CLOCKS_PER_SEC);
+    std::printf("volume %llu cap %llu rest %llu tries %llu floor %llu complete, %.2f processor seconds\n",
+                (unsigned long long)shown.volume, (unsigned long long)capped.cap,
+                (unsigned long long)capped.rest, (unsigned long long)record.tries,
+                (unsigned long long)shown.floor, double(std::clock()) / CLOCKS_PER_SEC);
 }

@@ -209,50 +209,53 @@ void check_opening(const Sample& sample, uint64_t number, uint64_t place, const 
     check(answer.number == number && answer.place == place && record == Record(), what);
 }
 
-void check_percent(uint64_t nonzeros, uint64_t percent, uint64_t number, uint64_t cap) {
-    uint64_t found = 0;
+void check_percent(uint64_t nonzeros, uint64_t percent, uint64_t number, Capped expected) {
+    Capped found;
     Answer answer = cap_from_percent(nonzeros, percent, found);
-    check(answer.number == number && answer.place == 0 && found == cap, "cap from a percentage");
+    check(answer.number == number && answer.place == 0 && found.cap == expected.cap &&
+              found.rest == expected.rest, "cap from a percentage");
 }
 
 void check_percents() {
-    check_percent(4, 0, 0, 2);
-    check_percent(233, 3, 0, 120);
-    check_percent(225, 3, 0, 116);
-    check_percent(1, 0, 0, 1);
-    check_percent(1, 99, 0, 1);
-    check_percent(1, 100, 0, 2);
-    check_percent(3, 0, 0, 2);
-    check_percent(3, 49, 0, 2);
-    check_percent(3, 50, 0, 3);
-    check_percent(5, 50, 0, 4);
-    check_percent(1999, 0, 0, 1000);
-    check_percent(1999, 100, 0, 2000);
-    check_percent(2000, 100, 0, 2000);
-    for (uint64_t percent = 0; percent <= most_percent; ++percent) check_percent(0, percent, 0, 0);
-    check_percent(2001, 101, too_big, 0);
-    check_percent(2000, 101, cap_range, 0);
-    check_percent(1999, 101, cap_range, 0);
-    check_percent(0, 101, cap_range, 0);
-    check_percent(UINT64_MAX, UINT64_MAX, too_big, 0);
+    check_percent(4, 0, 0, {2, 0});
+    check_percent(233, 3, 0, {120, 51});
+    check_percent(156, 3, 0, {80, 34});
+    check_percent(225, 3, 0, {116, 39});
+    check_percent(1, 0, 0, {1, 0});
+    check_percent(1, 99, 0, {1, 99});
+    check_percent(1, 100, 0, {2, 0});
+    check_percent(3, 0, 0, {2, 0});
+    check_percent(3, 49, 0, {2, 98});
+    check_percent(3, 50, 0, {3, 0});
+    check_percent(5, 50, 0, {4, 50});
+    check_percent(1999, 0, 0, {1000, 0});
+    check_percent(1999, 100, 0, {2000, 0});
+    check_percent(2000, 100, 0, {2000, 0});
+    for (uint64_t percent = 0; percent <= most_percent; ++percent) check_percent(0, percent, 0, {0, 0});
+    check_percent(2001, 101, too_big, {});
+    check_percent(2000, 101, cap_range, {});
+    check_percent(1999, 101, cap_range, {});
+    check_percent(0, 101, cap_range, {});
+    check_percent(UINT64_MAX, UINT64_MAX, too_big, {});
 }
 
-// The cap, or a number out of its range if it is refused.
-uint64_t cap_at(uint64_t nonzeros, uint64_t percent) {
-    uint64_t cap = 0;
-    return cap_from_percent(nonzeros, percent, cap).refused() ? most_cap + 1 : cap;
+// The cap and rest, or a cap out of its range if it is refused.
+Capped capped_at(uint64_t nonzeros, uint64_t percent) {
+    Capped capped;
+    bool refused = cap_from_percent(nonzeros, percent, capped).refused();
+    return refused ? Capped{most_cap + 1, 0} : capped;
 }
 
-// The cap is the whole part of the quotient, in range, enough for half of the
-// nonzeros and no less than the caps of fewer nonzeros and of less percent; for
-// even N it is also the whole part of (100 + e) * N / 200.
+// Cap and rest are quotient and remainder; the cap is in range, enough for half
+// of the nonzeros and no less than the caps of fewer nonzeros and of less
+// percent; for even N it is also the whole part of (100 + e) * N / 200.
 uint64_t check_cap(uint64_t nonzeros, uint64_t percent) {
-    uint64_t cap = cap_at(nonzeros, percent);
-    uint64_t half = nonzeros - nonzeros / 2, product = (100 + percent) * half;
-    bool whole = 100 * cap <= product && product < 100 * cap + 100;
+    auto [cap, rest] = capped_at(nonzeros, percent);
+    uint64_t half = nonzeros - nonzeros / 2;
+    bool whole = (100 + percent) * half == 100 * cap + rest && rest < 100;
     bool enough = half <= cap && nonzeros <= 2 * cap && cap <= most_cap;
-    bool rises = (nonzeros == 0 || cap_at(nonzeros - 1, percent) <= cap) &&
-                 (percent == 0 || cap_at(nonzeros, percent - 1) <= cap);
+    bool rises = (nonzeros == 0 || capped_at(nonzeros - 1, percent).cap <= cap) &&
+                 (percent == 0 || capped_at(nonzeros, percent - 1).cap <= cap);
     bool even = nonzeros % 2 == 1 || cap == (100 + percent) * nonzeros / 200;
     check(whole && enough && rises && even,
           "cap from " + std::to_string(nonzeros) + " at " + std::to_string(percent));
@@ -553,7 +556,7 @@ Sample read_matrix(const std::string& name) {
     sample.rows = content.rows;
     sample.columns = content.columns;
     sample.bytes.resize(2 * content.nonzeros);
-    cap_from_percent(content.nonzeros, 3, sample.cap);
+    sample.cap = capped_at(content.nonzeros, 3).cap;
     return sample;
 }
 
@@ -974,7 +977,7 @@ void check_random_forms(int texts) {
 
 void check_writer() {
     std::vector<uint8_t> parts = {0, 1}, out(200, 77);
-    CommentFigures figures{0, 1, 11, 0, 1};
+    CommentFigures figures{0, 1, 0, 11, 0, 1};
     auto write = [&](List list, size_t parts_length, size_t out_length) {
         size_t length = 0;
         Answer answer = write_text(list, parts.data(), parts_length, figures, out.data(),
@@ -982,7 +985,7 @@ void check_writer() {
         return answer.refused() ? answer.number + 256 * answer.place : 1000 + length;
     };
     std::vector<uint8_t> bytes = {0, 0, 1, 1};
-    const std::string wanted = integer_banner + "% volume 0 cap 1 tries 11 floor 0 complete\n"
+    const std::string wanted = integer_banner + "% volume 0 cap 1 rest 0 tries 11 floor 0 complete\n"
                                                 "2 2 2\n1 1 1\n2 2 2\n";
     check(write({3, 2, 7, bytes.data(), 4}, 0, 0) == too_big, "writer: 4");
     check(write({2, 2, 2, bytes.data(), 3}, 2, 200) == short_buffer, "writer: 9 for the list");
@@ -999,10 +1002,10 @@ void check_writer() {
     check(write({2, 2, 2, bytes.data(), 4}, 2, 0) == order + 256, "writer: 10 before 8");
     parts = {2, 2};
     check(write({2, 2, 2, bytes.data(), 4}, 2, 0) == part, "writer: 8 of an earlier nonzero");
-    figures = {UINT64_MAX, UINT64_MAX, UINT64_MAX, UINT64_MAX, 0};
+    figures = {UINT64_MAX, UINT64_MAX, UINT64_MAX, UINT64_MAX, UINT64_MAX, 0};
     parts = {0, 0};
-    const std::string bare = integer_banner + "% volume  cap  tries  floor  stopped\n1 1 0\n";
-    check(write({1, 1, 0, nullptr, 0}, 0, 200) == 1000 + bare.size() + 4 * 20, "writer: widest");
+    const std::string bare = integer_banner + "% volume  cap  rest  tries  floor  stopped\n1 1 0\n";
+    check(write({1, 1, 0, nullptr, 0}, 0, 200) == 1000 + bare.size() + 5 * 20, "writer: widest");
 }
 
 void check_round_trips(int patterns) {
@@ -1013,7 +1016,7 @@ void check_round_trips(int patterns) {
         for (uint8_t& byte : parts) byte = uint8_t(random.below(2));
         std::vector<uint8_t> out(longest_text);
         size_t length = 0;
-        Answer answer = write_text(sample.list(), parts.data(), parts.size(), {1, 2, 3, 4, 5},
+        Answer answer = write_text(sample.list(), parts.data(), parts.size(), {1, 2, 3, 4, 5, 6},
                                    out.data(), out.size(), length);
         TextContent content;
         Answer back = read_text({reinterpret_cast<char*>(out.data()), length}, list_back.data(),
@@ -1035,31 +1038,34 @@ void check_odd_splits() {
     const std::string row = pattern_banner + "1 3 3\n1 3\n1 1\n1 2\n";
     const std::string column = pattern_banner + "3 1 3\n3 1\n1 1\n2 1\n";
     check_split("percent 0 budget 100\n" + one,
-                solved("volume 0 cap 1 tries 5 floor 0", "1 1 1\n1 1 1\n"));
+                solved("volume 0 cap 1 rest 0 tries 5 floor 0", "1 1 1\n1 1 1\n"));
     check_split("percent 100 budget 100\n" + one,
-                solved("volume 0 cap 2 tries 5 floor 0", "1 1 1\n1 1 1\n"));
+                solved("volume 0 cap 2 rest 0 tries 5 floor 0", "1 1 1\n1 1 1\n"));
     check_split("percent 0 budget 1000001\n" + one, "refused 13 at 0\n");
     check_split("percent 101 budget 1000001\n" + one, "refused 11 at 0\n");
-    for (const char* percent : {"0", "33", "49"})
-        check_split("percent " + std::string(percent) + " budget 100\n" + row,
-                    solved("volume 1 cap 2 tries 10 floor 1", "1 3 3\n1 1 1\n1 2 1\n1 3 2\n"));
-    check_split("percent 0 budget 0\n" + row, "none yet cap 2 tries 0 floor 1\n");
+    for (auto [percent, rest] : {std::pair{"0", "0"}, {"33", "66"}, {"49", "98"}}) {
+        const std::string capped = "cap 2 rest " + std::string(rest);
+        const std::string command = "percent " + std::string(percent);
+        check_split(command + " budget 100\n" + row,
+                    solved("volume 1 " + capped + " tries 10 floor 1", "1 3 3\n1 1 1\n1 2 1\n1 3 2\n"));
+        check_split(command + " budget 0\n" + row, "none yet " + capped + " tries 0 floor 1\n");
+    }
     check_split("percent 0 budget 100\n" + column,
-                solved("volume 1 cap 2 tries 10 floor 1", "3 1 3\n1 1 1\n2 1 1\n3 1 2\n"));
+                solved("volume 1 cap 2 rest 0 tries 10 floor 1", "3 1 3\n1 1 1\n2 1 1\n3 1 2\n"));
     check_split("percent 100 budget 100\n" + row,
-                solved("volume 0 cap 4 tries 11 floor 0", "1 3 3\n1 1 1\n1 2 1\n1 3 1\n"));
+                solved("volume 0 cap 4 rest 0 tries 11 floor 0", "1 3 3\n1 1 1\n1 2 1\n1 3 1\n"));
     check_split("percent 0 budget 100\n" + symmetric_banner + "2 2 2\n2 1\n2 2\n",
-                solved("volume 1 cap 2 tries 11 floor 1", "2 2 3\n1 2 2\n2 1 1\n2 2 1\n"));
+                solved("volume 1 cap 2 rest 0 tries 11 floor 1", "2 2 3\n1 2 2\n2 1 1\n2 2 1\n"));
 }
 
 void check_splits(const std::string& data) {
     const std::string two = pattern_banner + "2 2 2\n2 2\n1 1\n";
-    const std::string solved = integer_banner + "% volume 0 cap 1 tries 11 floor 0 complete\n"
+    const std::string solved = integer_banner + "% volume 0 cap 1 rest 0 tries 11 floor 0 complete\n"
                                                 "2 2 2\n1 1 1\n2 2 2\n";
     check_split("percent 0 budget 100\n" + two, solved);
     check_split("percent 000 budget 000000100\n" + two, solved);
-    check_split("percent 0 budget 3\n" + two, "none yet cap 1 tries 3 floor 0\n");
-    check_split("percent 0 budget 0\n" + two, "none yet cap 1 tries 0 floor 0\n");
+    check_split("percent 0 budget 3\n" + two, "none yet cap 1 rest 0 tries 3 floor 0\n");
+    check_split("percent 0 budget 0\n" + two, "none yet cap 1 rest 0 tries 0 floor 0\n");
     for (const char* line : {"", "percent 0 budget 100", "percent 0 budget 100\r\n",
                              "percent  0 budget 100\n", "percent 0 budget 100 \n",
                              " percent 0 budget 100\n", "Percent 0 budget 100\n",
@@ -1074,7 +1080,7 @@ void check_splits(const std::string& data) {
     check_split("percent 0 budget 1\n", "refused 1 at 0\n");
     check_split("percent 0 budget 1\n" + std::string(longest_text + 1, ' '), "refused 4 at 0\n");
     check_split("percent 0 budget 5\n" + pattern_banner + "2 3 0\n",
-                integer_banner + "% volume 0 cap 0 tries 0 floor 0 complete\n2 3 0\n");
+                integer_banner + "% volume 0 cap 0 rest 0 tries 0 floor 0 complete\n2 3 0\n");
     const std::string start = "percent 0 budget 100\n";
     check_split(start + symmetric_real_banner + "2 2 2\n2 2 0\n1 1 -1e3\n", solved);
     check_split(start + symmetric_integer_banner + "2 2 2\n2 2 1\n1 1 1\n", solved);
@@ -1083,10 +1089,10 @@ void check_splits(const std::string& data) {
     check_split(start + symmetric_banner + "2 2 1\n1 2\n", "refused 16 at 57\n");
     check_split("percent 101 budget 0\n" + symmetric_banner + "2 2 1\n2 1\n", "refused 11 at 0\n");
     check_split("percent 0 budget 0\n" + symmetric_banner + "2 2 2\n2 1\n1 1\n",
-                "none yet cap 2 tries 0 floor 1\n");
+                "none yet cap 2 rest 0 tries 0 floor 1\n");
     const std::string all = "percent 3 budget 1000000\n";
     std::string karate = split_with_both(all + file_bytes(data + "/karate.mtx"));
-    check(karate.find("% volume 8 cap 80 tries 24934 floor 8 complete\n34 34 156\n") ==
+    check(karate.find("% volume 8 cap 80 rest 34 tries 24934 floor 8 complete\n34 34 156\n") ==
               integer_banner.size(), "split of karate");
     check(split_with_both(all + karate) == karate, "parts are unused");
 }

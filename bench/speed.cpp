@@ -111,6 +111,12 @@ Measure measured(bipartition_function* function, const Subject& subject, uint64_
 
 // ---- patterns
 
+uint64_t cap_at_3_percent(uint64_t nonzeros) {
+    baseline::Capped capped;
+    baseline::cap_from_percent(nonzeros, 3, capped);
+    return capped.cap;
+}
+
 Subject matrix(const std::string& data, const std::string& name) {
     std::ifstream file(data + "/" + name + ".mtx", std::ios::binary);
     std::string text{std::istreambuf_iterator<char>(file), {}};
@@ -122,7 +128,7 @@ Subject matrix(const std::string& data, const std::string& name) {
     subject.rows = content.rows;
     subject.columns = content.columns;
     subject.list.resize(2 * content.nonzeros);
-    baseline::cap_from_percent(subject.nonzeros(), 3, subject.cap);
+    subject.cap = cap_at_3_percent(subject.nonzeros());
     return subject;
 }
 
@@ -133,7 +139,7 @@ Subject random_subject(uint64_t rows, uint64_t columns, uint64_t nonzeros, uint6
     subject.rows = rows;
     subject.columns = columns;
     subject.list = random_list(random, rows, columns, nonzeros);
-    baseline::cap_from_percent(subject.nonzeros(), 3, subject.cap);
+    subject.cap = cap_at_3_percent(subject.nonzeros());
     return subject;
 }
 

@@ -99,10 +99,15 @@ public:
 const Walk& plain();
 const Walk& incremental();
 
-// The cap from a percentage: the whole part of
-// (100 + percent) * ceiling(nonzeros / 2) / 100. Checks 4, then 11. It is at
-// least half of the nonzeros, so an opening with it is never refused 12.
-Answer cap_from_percent(uint64_t nonzeros, uint64_t percent, uint64_t& cap);
+// The cap from a percentage and the rest that was cut off:
+// (100 + percent) * ceiling(nonzeros / 2) = 100 * cap + rest, rest under 100.
+struct Capped {
+    uint64_t cap = 0, rest = 0;
+};
+
+// Checks 4, then 11. The cap is at least half of the nonzeros, so an opening
+// with it is never refused 12.
+Answer cap_from_percent(uint64_t nonzeros, uint64_t percent, Capped&);
 
 // Checks 4, 9, then per nonzero 5 and 10.
 Answer check_list(const List&);

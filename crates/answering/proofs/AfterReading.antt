@@ -17,7 +17,7 @@ use Rattle.model.specs.declared.RunAnswer.{RunAnswer}
 use Rattle.model.specs.declared.ShowAnswer.{ShowAnswer}
 use Rattle.model.specs.declared.ShowAnswer.the-variants as show-answer
 use Rattle.model.specs.Limits.{nonzeroLimit, percentLimit, budgetLimit}
-use Rattle.model.specs.Split.{capFromPercent}
+use Rattle.model.specs.Split.{capFromPercent, restFromPercent}
 use Rattle.model.specs.Calls.{listVerdict, openVerdict, capCall, openCall, ended}
 use Rattle.model.proofs.Theorems.Accepted.{list-accepted}
 use Rattle.model.proofs.Theorems.Checks.{refused-not}
@@ -32,17 +32,16 @@ use Rattle.writing.specs.declared.WriteAnswer.{WriteAnswer}
 use Rattle.writing.specs.declared.WriteAnswer.the-variants as write-answer
 use Rattle.writing.specs.Written.{textOf}
 use Rattle.writing.specs.Writing.{lengthAnswer, answerWritten, writeCall}
-use Rattle.writing.specs.Lines.{refusedText}
 use Rattle.readback.proofs.Accepted.{fine-split}
 use Rattle.readback.proofs.Short.{text-short}
 use Rattle.readback.proofs.AnyText.{read-list-fine, read-writes}
-use Rattle.answering.specs.Answer.{listRoom, partsRoom, figuresOf, afterWriting, afterShowing, searchText, afterRun, ranText, afterOpening, openedText, afterCap, patternText}
+use Rattle.answering.specs.Answer.{listRoom, partsRoom, gives-refusal, afterWriting, printedAs, figuresOf, afterShowing, searchAnswer, afterRun, ranAnswer, afterOpening, openedAnswer, afterCap, patternAnswer}
 use Rattle.answering.specs.Printing.{outputRoom}
 use Rattle.answering.specs.Refusing.{NoRefusal, split, none-yet}
 use Rattle.answering.proofs.SameNonzeros.{text-read}
 
 -- a text that is read, after a first line that is right
-module _ (text : List ℕ) (percent budget : ℕ) (out : List ℕ) (accepted : readVerdict text listRoom partsRoom ≡ Accepted) where
+module _ (text : List ℕ) (percent budget : ℕ) (accepted : readVerdict text listRoom partsRoom ≡ Accepted) where
   abbrev m : ℕ
   m = headerOf text .m
 
@@ -65,18 +64,21 @@ module _ (text : List ℕ) (percent budget : ℕ) (out : List ℕ) (accepted : r
   few : nonzeros ≤ nonzeroLimit
   few = list-accepted m n nonzeros list listed .size-to
 
-  after-cap : patternText text percent budget out ≡ afterCap (capCall nonzeros percent) m n nonzeros list budget out
-  after-cap = text-read text m n nonzeros _ percent budget out read-is
+  after-cap : patternAnswer text percent budget ≡ afterCap (capCall nonzeros percent) m n nonzeros list budget
+  after-cap = text-read text m n nonzeros _ percent budget read-is
 
   -- E out of its range is refused 11
-  pub percent-refused : percentLimit < percent → patternText text percent budget out ≡ refusedText Cap 0
+  pub percent-refused : percentLimit < percent → patternAnswer text percent budget ≡ gives-refusal Cap 0
   unfolding afterCap
-  percent-refused high = after-cap ∙ ap (λ (a : CapAnswer). afterCap a m n nonzeros list budget out) (cap-refused nonzeros percent few high)
+  percent-refused high = after-cap ∙ ap (λ (a : CapAnswer). afterCap a m n nonzeros list budget) (cap-refused nonzeros percent few high)
 
   -- with E in its range the search opens
   module _ (low : percent ≤ percentLimit) where
     abbrev cap : ℕ
     cap = capFromPercent nonzeros percent
+
+    abbrev rest : ℕ
+    rest = restFromPercent nonzeros percent
 
     capped : openVerdict m n nonzeros list cap ≡ Accepted
     capped = percent-opens m n nonzeros list percent few low ∙ listed
@@ -84,22 +86,22 @@ module _ (text : List ℕ) (percent budget : ℕ) (out : List ℕ) (accepted : r
     abbrev After : Search
     After = Run m n nonzeros list cap budget capped .search
 
-    after-run : patternText text percent budget out ≡ afterRun (Run m n nonzeros list cap budget capped .answer) After m n nonzeros list out
-    unfolding afterCap openedText openCall afterOpening ranText
+    after-run : patternAnswer text percent budget ≡ afterRun (Run m n nonzeros list cap budget capped .answer) After rest m n nonzeros list
+    unfolding afterCap openedAnswer openCall afterOpening ranAnswer
     after-run =
         after-cap
-        ∙ ap (λ (a : CapAnswer). afterCap a m n nonzeros list budget out) (cap-given nonzeros percent few low)
-        ∙ ap (λ (v : Verdict). afterOpening v (openCall m n nonzeros list cap .search) m n nonzeros list budget out) capped
+        ∙ ap (λ (a : CapAnswer). afterCap a m n nonzeros list budget) (cap-given nonzeros percent few low)
+        ∙ ap (λ (v : Verdict). afterOpening v (openCall m n nonzeros list cap .search) rest m n nonzeros list budget) capped
 
     -- B out of its range is refused 13
-    pub budget-refused : budgetLimit < budget → patternText text percent budget out ≡ refusedText Budget 0
+    pub budget-refused : budgetLimit < budget → patternAnswer text percent budget ≡ gives-refusal Budget 0
     unfolding afterRun
-    budget-refused over = after-run ∙ ap (λ (a : RunAnswer). afterRun a After m n nonzeros list out) (run-refused m n nonzeros list cap budget capped over)
+    budget-refused over = after-run ∙ ap (λ (a : RunAnswer). afterRun a After rest m n nonzeros list) (run-refused m n nonzeros list cap budget capped over)
 
     -- with B in its range nothing is refused
-    module _ (within : budget ≤ budgetLimit) (room : outputRoom ≤ length out) where
-      abbrev Answer : ShowAnswer
-      Answer = Shown m n nonzeros list cap budget capped within partsRoom
+    module _ (within : budget ≤ budgetLimit) (out : List ℕ) (room : outputRoom ≤ length out) where
+      abbrev Showing : ShowAnswer
+      Showing = Shown m n nonzeros list cap budget capped within partsRoom
 
       abbrev Parts : List ℕ
       Parts = Left m n nonzeros list cap budget capped within partsRoom
@@ -108,7 +110,7 @@ module _ (text : List ℕ) (percent budget : ℕ) (out : List ℕ) (accepted : r
       parts-room = omega (arith, few, length-replicate {A = ℕ} nonzeroLimit 0)
 
       -- the split is written
-      split-written : (volume floor : ℕ) → Answer ≡ show-answer.Split volume floor → (f : Figures) → writeCall m n nonzeros list Parts f out ≡ write-answer.Written (length (textOf m n nonzeros list Parts f))
+      split-written : (volume floor : ℕ) → Showing ≡ show-answer.Split volume floor → (f : Figures) → writeCall m n nonzeros list Parts f out ≡ write-answer.Written (length (textOf m n nonzeros list Parts f))
       unfolding writeCall answerWritten lengthAnswer
       split-written volume floor e f =
           let fine = read-writes text listRoom partsRoom m n nonzeros _ read-is Parts (parts-fine m n nonzeros list cap budget capped within partsRoom parts-room volume floor e) in
@@ -119,24 +121,24 @@ module _ (text : List ℕ) (percent budget : ℕ) (out : List ℕ) (accepted : r
           (write-answer.Written (length written))
           (le-ltb (length out) (length written) (omega (arith, room, text-short (fine-split m n nonzeros list Parts fine) f)))
 
-      shown-tells : (a : ShowAnswer) → Answer ≡ a → NoRefusal (afterShowing a After m n nonzeros list Parts out)
-      unfolding afterShowing afterWriting
+      shown-tells : (a : ShowAnswer) → Showing ≡ a → NoRefusal (printedAs (afterShowing a After rest m n nonzeros list Parts) out)
+      unfolding afterShowing printedAs afterWriting
       shown-tells (show-answer.Split volume floor) e =
-          let f = figuresOf After volume floor in
+          let f = figuresOf After rest volume floor in
           split m n nonzeros list Parts f
           (ap (λ (w : WriteAnswer). afterWriting w (textOf m n nonzeros list Parts f)) (split-written volume floor e f))
-      shown-tells (show-answer.NoneYet floor) e = none-yet (After .cap) (After .tries) floor refl
+      shown-tells (show-answer.NoneYet floor) e = none-yet (After .cap) rest (After .tries) floor refl
       shown-tells (show-answer.Refused word place) e =
           refused-not (sym (told m n nonzeros list cap budget capped within partsRoom .refused word place .0 e) ∙ shows m n nonzeros list cap budget capped within partsRoom parts-room)
 
-      run-tells : (done : Bool) → NoRefusal (afterRun (ended done) After m n nonzeros list out)
-      unfolding ended afterRun searchText
-      run-tells true = shown-tells Answer refl
-      run-tells false = shown-tells Answer refl
+      run-tells : (done : Bool) → NoRefusal (printedAs (afterRun (ended done) After rest m n nonzeros list) out)
+      unfolding ended afterRun searchAnswer
+      run-tells true = shown-tells Showing refl
+      run-tells false = shown-tells Showing refl
 
-      pub text-answered : NoRefusal (patternText text percent budget out)
+      pub text-answered : NoRefusal (printedAs (patternAnswer text percent budget) out)
       text-answered =
           subst
-          NoRefusal
-          (sym (after-run ∙ ap (λ (a : RunAnswer). afterRun a After m n nonzeros list out) (run-ended m n nonzeros list cap budget capped within)))
+          (λ a. NoRefusal (printedAs a out))
+          (sym (after-run ∙ ap (λ (a : RunAnswer). afterRun a After rest m n nonzeros list) (run-ended m n nonzeros list cap budget capped within)))
           (run-tells _)

@@ -24,10 +24,9 @@ use Rattle.texts.specs.declared.ReadAnswer.{ReadAnswer}
 use Rattle.texts.specs.declared.ReadAnswer.the-variants as read-answer
 use Rattle.texts.specs.Header.{textLimit, headVerdict}
 use Rattle.texts.specs.Reading.{answerRead, textVerdict, readVerdict, readCall, readList}
-use Rattle.writing.specs.Lines.{refusedText}
 use Rattle.answering.specs.declared.Command.{Command}
 use Rattle.answering.specs.FirstLine.{#percent, #budget, commandOf}
-use Rattle.answering.specs.Answer.{listRoom, partsRoom, afterReading, patternText, answerText}
+use Rattle.answering.specs.Answer.{listRoom, partsRoom, Answer, gives-refusal, printedAs, afterReading, patternAnswer, answerTo, answerText}
 use Rattle.answering.specs.Printing.{inputRoom}
 use Rattle.scanning.proofs.Scans.{stretch-after}
 use Rattle.answering.proofs.FirstLine.{stretch-within}
@@ -111,17 +110,17 @@ over-refused : (text : List ℕ) → textLimit < length text → readCall text l
 unfolding readCall readVerdict textVerdict headVerdict answerRead _then_
 over-refused text h = rw (refuse-so {test = ltb textLimit (length text)} TooBig 0 (lt-ltb textLimit (length text) h))
 
-over-text : (text : List ℕ) (percent budget : ℕ) (out : List ℕ) → textLimit < length text → patternText text percent budget out ≡ refusedText TooBig 0
-unfolding patternText afterReading
-over-text text percent budget out h =
-    ap (λ (x : ReadAnswer). afterReading x (readList text listRoom partsRoom) percent budget out) (over-refused text h)
+over-text : (text : List ℕ) (percent budget : ℕ) → textLimit < length text → patternAnswer text percent budget ≡ gives-refusal TooBig 0
+unfolding patternAnswer afterReading
+over-text text percent budget h =
+    ap (λ (x : ReadAnswer). afterReading x (readList text listRoom partsRoom) percent budget) (over-refused text h)
 
-module _ (input out : List ℕ) where
+module _ (input : List ℕ) where
   first-bytes : Alike (take inputRoom input) input
   first-bytes i l = getD-take inputRoom input i 0 (omega arith)
 
-  long-same : inputRoom < length input → answerText (take inputRoom input) out ≡ answerText input out
-  unfolding answerText
+  long-same : inputRoom < length input → answerTo (take inputRoom input) ≡ answerTo input
+  unfolding answerTo
   long-same h =
       let first = take inputRoom input in
       let o = commandOf input in
@@ -130,17 +129,21 @@ module _ (input out : List ℕ) where
       let short : textLimit < length (drop (o .next) first) = omega (arith, length-drop (o .next) first, whole, near) in
       let long : textLimit < length (drop (o .next) input) = omega (arith, length-drop (o .next) input, near) in
       ap
-      (λ (x : Command). pick (x .fine) (patternText (drop (x .next) first) (x .percent) (x .budget) out) (refusedText EntryForm 0))
+      (λ (x : Command). pick (x .fine) (patternAnswer (drop (x .next) first) (x .percent) (x .budget)) (gives-refusal EntryForm 0))
       (command-same first input first-bytes)
       ∙ ap
-      (λ (t : List ℕ). pick (o .fine) t (refusedText EntryForm 0))
-      (over-text (drop (o .next) first) (o .percent) (o .budget) out short
-      ∙ sym (over-text (drop (o .next) input) (o .percent) (o .budget) out long))
+      (λ (a : Answer). pick (o .fine) a (gives-refusal EntryForm 0))
+      (over-text (drop (o .next) first) (o .percent) (o .budget) short
+      ∙ sym (over-text (drop (o .next) input) (o .percent) (o .budget) long))
 
   -- the answer to what is read of an input is the answer to the input
-  pub enough-read : answerText (take inputRoom input) out ≡ answerText input out
-  enough-read =
+  answer-same : answerTo (take inputRoom input) ≡ answerTo input
+  answer-same =
       by-test
       (ltb inputRoom (length input))
       (λ e. long-same (ltb-true inputRoom (length input) e))
-      (λ e. ap (λ (x : List ℕ). answerText x out) (take-all inputRoom input (ltb-false inputRoom (length input) e)))
+      (λ e. ap answerTo (take-all inputRoom input (ltb-false inputRoom (length input) e)))
+
+  pub enough-read : (out : List ℕ) → answerText (take inputRoom input) out ≡ answerText input out
+  unfolding answerText
+  enough-read out = ap (λ (a : Answer). printedAs a out) answer-same

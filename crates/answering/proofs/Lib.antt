@@ -5,6 +5,7 @@ pub mod Roomy
 pub mod Fitting
 pub mod Whole
 pub mod SameNonzeros
+pub mod CapShown
 pub mod Telling
 pub mod AfterReading
 pub mod Refusing

@@ -24,7 +24,7 @@ use Rattle.texts.specs.Reading.{nonzerosIn, answerRead, readVerdict, cellsOf, r
 use Rattle.writing.specs.Lines.{refusedText}
 use Rattle.readback.proofs.Spared.{read-spares}
 use Rattle.answering.specs.FirstLine.{commandOf}
-use Rattle.answering.specs.Answer.{listRoom, partsRoom, afterReading, patternText, answerText}
+use Rattle.answering.specs.Answer.{listRoom, partsRoom, Answer, gives-refusal, printedAs, afterReading, patternAnswer, answerTo, answerText}
 use Rattle.answering.specs.Printing.{outputRoom}
 use Rattle.answering.specs.Refusing.{patternVerdict, splitVerdict, refusalIn, Tells}
 use Rattle.answering.proofs.Telling.{tells-then, tells-check, tells-last, tells-number}
@@ -32,52 +32,62 @@ use Rattle.answering.proofs.AfterReading.{percent-refused, budget-refus
 
 -- a text that is refused
 text-refused :
-    (text : List ℕ) (percent budget : ℕ) (out : List ℕ) (word : Word) (place : ℕ) → readVerdict text listRoom partsRoom ≡ Refused word place →
-    patternText text percent budget out ≡ refusedText word place
-unfolding patternText readCall answerRead afterReading
-text-refused text percent budget out word place e =
+    (text : List ℕ) (percent budget : ℕ) (word : Word) (place : ℕ) → readVerdict text listRoom partsRoom ≡ Refused word place →
+    patternAnswer text percent budget ≡ gives-refusal word place
+unfolding patternAnswer readCall answerRead afterReading
+text-refused text percent budget word place e =
     ap
-    (λ (v : Verdict). afterReading (answerRead v (headerOf text) (nonzerosIn (headerOf text) (cellsOf text))) (readList text listRoom partsRoom) percent budget out)
+    (λ (v : Verdict). afterReading (answerRead v (headerOf text) (nonzerosIn (headerOf text) (cellsOf text))) (readList text listRoom partsRoom) percent budget)
     e
 
--- what follows the first line
-text-tells : (text : List ℕ) (percent budget : ℕ) (out : List ℕ) → outputRoom ≤ length out → Tells (patternVerdict text percent budget) (patternText text percent budget out)
-unfolding patternVerdict
-text-tells text percent budget out room =
-    tells-then
-    (readVerdict text listRoom partsRoom)
-    _
-    (text-refused text percent budget out)
-    (λ read. tells-check
-    (ltb percentLimit percent)
-    Cap
-    0
-    _
-    (λ high. percent-refused text percent budget out read (ltb-true percentLimit percent high))
-    (λ low. tells-last
-    (ltb budgetLimit budget)
-    Budget
-    0
-    (λ over. budget-refused text percent budget out read (ltb-false percentLimit percent low) (ltb-true budgetLimit budget over))
-    (λ within. text-answered text percent budget out read (ltb-false percentLimit percent low) (ltb-false budgetLimit budget within) room)))
+module _ (out : List ℕ) where
+  refusal-printed : {a : Answer} {word : Word} {place : ℕ} → a ≡ gives-refusal word place → printedAs a out ≡ refusedText word place
+  unfolding printedAs
+  refusal-printed e = ap (λ (x : Answer). printedAs x out) e
+
+  module _ (room : outputRoom ≤ length out) where
+    -- what follows the first line
+    text-tells : (text : List ℕ) (percent budget : ℕ) → Tells (patternVerdict text percent budget) (printedAs (patternAnswer text percent budget) out)
+    unfolding patternVerdict
+    text-tells text percent budget =
+        tells-then
+        (readVerdict text listRoom partsRoom)
+        _
+        (λ word place e. refusal-printed (text-refused text percent budget word place e))
+        (λ read. tells-check
+        (ltb percentLimit percent)
+        Cap
+        0
+        _
+        (λ high. refusal-printed (percent-refused text percent budget read (ltb-true percentLimit percent high)))
+        (λ low. tells-last
+        (ltb budgetLimit budget)
+        Budget
+        0
+        (λ over. refusal-printed (budget-refused text percent budget read (ltb-false percentLimit percent low) (ltb-true budgetLimit budget over)))
+        (λ within. text-answered text percent budget read (ltb-false percentLimit percent low) (ltb-false budgetLimit budget within) out room)))
+
+    answer-tells : (input : List ℕ) → Tells (splitVerdict input) (printedAs (answerTo input) out)
+    unfolding splitVerdict answerTo
+    answer-tells input =
+        let o = commandOf input in
+        let text = drop (o .next) input in
+        let answer = patternAnswer text (o .percent) (o .budget) in
+        tells-check
+        (not (o .fine))
+        EntryForm
+        0
+        _
+        (λ wrong. refusal-printed (pick-false answer (gives-refusal EntryForm 0) (not-true (o .fine) wrong)))
+        (λ right. subst
+        (λ (a : Answer). Tells (patternVerdict text (o .percent) (o .budget)) (printedAs a out))
+        (sym (pick-true answer (gives-refusal EntryForm 0) (not-false (o .fine) right)))
+        (text-tells text (o .percent) (o .budget)))
 
 -- the program refuses what its checks refuse, and nothing else
 pub split-refuses : (input out : List ℕ) → outputRoom ≤ length out → Tells (splitVerdict input) (answerText input out)
-unfolding splitVerdict answerText
-split-refuses input out room =
-    let o = commandOf input in
-    let text = drop (o .next) input in
-    let answer = patternText text (o .percent) (o .budget) out in
-    tells-check
-    (not (o .fine))
-    EntryForm
-    0
-    _
-    (λ wrong. pick-false answer (refusedText EntryForm 0) (not-true (o .fine) wrong))
-    (λ right. subst
-    (Tells (patternVerdict text (o .percent) (o .budget)))
-    (sym (pick-true answer (refusedText EntryForm 0) (not-false (o .fine) right)))
-    (text-tells text (o .percent) (o .budget) out room))
+unfolding answerText
+split-refuses input out room = answer-tells out room input
 
 module _ (input : List ℕ) where
   -- of the program's checks only that of E refuses for a cap

@@ -10,25 +10,25 @@ use Rattle.texts.specs.declared.ReadAnswer.the-variants as read-answer
 use Rattle.texts.specs.Reading.{readCall, readList}
 use Rattle.readback.specs.TextSays.{SameNonzeros}
 use Rattle.readback.proofs.SameNonzeros.{sizes-same, list-same}
-use Rattle.answering.specs.Answer.{listRoom, partsRoom, afterCap, afterReading, patternText}
+use Rattle.answering.specs.Answer.{listRoom, partsRoom, afterCap, afterReading, patternAnswer}
 
 -- what follows a text that is read is by its sizes and its list
 pub text-read :
-    (text : List ℕ) (m n nonzeros : ℕ) (integer : Bool) (percent budget : ℕ) (out : List ℕ) →
+    (text : List ℕ) (m n nonzeros : ℕ) (integer : Bool) (percent budget : ℕ) →
     readCall text listRoom partsRoom ≡ read-answer.Read m n nonzeros integer →
-    patternText text percent budget out ≡ afterCap (capCall nonzeros percent) m n nonzeros (readList text listRoom partsRoom) budget out
-unfolding patternText afterReading
-text-read text m n nonzeros integer percent budget out e =
-    ap (λ (x : ReadAnswer). afterReading x (readList text listRoom partsRoom) percent budget out) e
+    patternAnswer text percent budget ≡ afterCap (capCall nonzeros percent) m n nonzeros (readList text listRoom partsRoom) budget
+unfolding patternAnswer afterReading
+text-read text m n nonzeros integer percent budget e =
+    ap (λ (x : ReadAnswer). afterReading x (readList text listRoom partsRoom) percent budget) e
 
 pub same-answer :
-    (one other : List ℕ) (m n nonzeros m′ n′ nonzeros′ : ℕ) (integer integer′ : Bool) (percent budget : ℕ) (out : List ℕ) → SameNonzeros one other →
+    (one other : List ℕ) (m n nonzeros m′ n′ nonzeros′ : ℕ) (integer integer′ : Bool) (percent budget : ℕ) → SameNonzeros one other →
     readCall one listRoom partsRoom ≡ read-answer.Read m n nonzeros integer →
     readCall other listRoom partsRoom ≡ read-answer.Read m′ n′ nonzeros′ integer′ →
-    patternText one percent budget out ≡ patternText other percent budget out
-same-answer one other m n nonzeros m′ n′ nonzeros′ integer integer′ percent budget out alike e f =
+    patternAnswer one percent budget ≡ patternAnswer other percent budget
+same-answer one other m n nonzeros m′ n′ nonzeros′ integer integer′ percent budget alike e f =
     let sizes = sizes-same one other listRoom partsRoom alike e f in
-    text-read one m n nonzeros integer percent budget out e
+    text-read one m n nonzeros integer percent budget e
     ∙ rw
     (sizes .0, sizes .1, sizes .2, list-same one other listRoom partsRoom alike e f)
-    (sym (text-read other m′ n′ nonzeros′ integer′ percent budget out f))
+    (sym (text-read other m′ n′ nonzeros′ integer′ percent budget f))

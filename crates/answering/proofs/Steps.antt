@@ -45,10 +45,18 @@ use Rattle.writing.proofs.Puttings.{puts-none, puts-as}
 use Rattle.writing.proofs.Answers.{write-puts, write-keeps}
 use Rattle.answering.specs.declared.Command.{Command}
 use Rattle.answering.specs.FirstLine.{commandOf}
-use Rattle.answering.specs.Answer.{listRoom, partsRoom, figuresOf, lineText, afterWriting, afterShowing, searchText, afterRun, ranText, afterOpening, openedText, afterCap, afterReading, patternText, answerText}
+use Rattle.answering.specs.Answer.{listRoom, partsRoom, Answer, gives-split, gives-none, gives-refusal, afterWriting, printedAs, lineText, figuresOf, afterShowing, searchAnswer, afterRun, ranAnswer, afterOpening, openedAnswer, afterCap, afterReading, patternAnswer, answerTo, answerText}
 
-puts-from : {page from text new : List ℕ} {at next : ℕ} → page ≡ from → Puts page at text new next → Puts from at text new next
-puts-from {page} {from} {text} {new} {at} {next} e p = record { after = p .after; bytes = p .bytes ∙ ap (λ (x : List ℕ). sets x at text) e }
+-- an answer printed is printed as any that equals it
+module _ {out new : List ℕ} {r : ℕ} {answer : Answer} where
+  pub prints-answer : {same : Answer} → same ≡ answer → Puts out 0 (printedAs same out) new r → Puts out 0 (printedAs answer out) new r
+  prints-answer e p = puts-as (ap (λ (a : Answer). printedAs a out) e) p
+
+  pub prints-refusal :
+      (word : Word) (place : ℕ) → gives-refusal word place ≡ answer → Puts out 0 (refusedText word place) new r →
+      Puts out 0 (printedAs answer out) new r
+  unfolding printedAs
+  prints-refusal word place e p = prints-answer {same = gives-refusal word place} e p
 
 -- a byte other than 0 stands inside
 byte-inside : (l : List ℕ) (i b : ℕ) → b ≡ getD l i 0 → b ≡ 10 → i < length l
@@ -59,210 +67,181 @@ byte-inside l i b e h =
     (λ t. no-way (omega (arith, List·getD-eq-default l 0 {n = i} (ltb-false i (length l) t))))
 
 pub figures-are :
-    (s : Search) (volume floor complete : ℕ) → complete ≡ completeNumber (s .complete) →
-    _≡_ {A = Figures} (record { volume = volume; cap = s .cap; tries = s .tries; floor = floor; complete = complete }) (figuresOf s volume floor)
+    (s : Search) (rest volume floor complete : ℕ) → complete ≡ completeNumber (s .complete) →
+    _≡_ {A = Figures} (record { volume = volume; cap = s .cap; rest = rest; tries = s .tries; floor = floor; complete = complete }) (figuresOf s rest volume floor)
 unfolding figuresOf
-figures-are s volume floor complete e = rw e
+figures-are s rest volume floor complete e = rw e
 
 -- the line of an answer without a split
-module _ (cap tries : ℕ) where
-  no-line : (a : ShowAnswer) → tagOf (declared show-enum) a ≡ 0 → [] ≡ lineText a cap tries
+module _ (cap rest tries : ℕ) where
+  no-line : (a : ShowAnswer) → tagOf (declared show-enum) a ≡ 0 → [] ≡ lineText a cap rest tries
   unfolding lineText
   no-line (show-answer.Split volume floor) e = refl
   no-line (show-answer.NoneYet floor) e = no-way (omega arith)
   no-line (show-answer.Refused word place) e = no-way (omega arith)
 
-  pub line-split : (a : ShowAnswer) (out : List ℕ) → tagOf (declared show-enum) a ≡ 0 → Puts out 0 (lineText a cap tries) out 0
+  pub line-split : (a : ShowAnswer) (out : List ℕ) → tagOf (declared show-enum) a ≡ 0 → Puts out 0 (lineText a cap rest tries) out 0
   line-split a out h = puts-as (no-line a h) (puts-none out 0)
 
   pub line-none :
       {a : ShowAnswer} {out new : List ℕ} {r : ℕ} (floor : ℕ) → a ≡ show-answer.NoneYet floor →
-      Puts out 0 (noneText cap tries floor) new r → Puts out 0 (lineText a cap tries) new r
+      Puts out 0 (noneText cap rest tries floor) new r → Puts out 0 (lineText a cap rest tries) new r
   unfolding lineText
-  line-none floor e p = puts-as (ap (λ (x : ShowAnswer). lineText x cap tries) (sym e)) p
+  line-none floor e p = puts-as (ap (λ (x : ShowAnswer). lineText x cap rest tries) (sym e)) p
 
   pub line-refused :
       {a : ShowAnswer} {out new : List ℕ} {r : ℕ} (word : Word) (place : ℕ) → a ≡ show-answer.Refused word place →
-      Puts out 0 (refusedText word place) new r → Puts out 0 (lineText a cap tries) new r
+      Puts out 0 (refusedText word place) new r → Puts out 0 (lineText a cap rest tries) new r
   unfolding lineText
-  line-refused word place e p = puts-as (ap (λ (x : ShowAnswer). lineText x cap tries) (sym e)) p
+  line-refused word place e p = puts-as (ap (λ (x : ShowAnswer). lineText x cap rest tries) (sym e)) p
 
 -- a split written, or the writer's refusal
-module _ (m n nonzeros : ℕ) (list parts : List ℕ) (s : Search) (volume floor : ℕ) (f : Figures) (out : List ℕ) (w : WriteAnswer)
-    (figures : f ≡ figuresOf s volume floor) (called : w ≡ writeCall m n nonzeros list parts f out) where
-  given-so : w ≡ writeCall m n nonzeros list parts (figuresOf s volume floor) out
-  given-so = called ∙ ap (λ (g : Figures). writeCall m n nonzeros list parts g out) figures
+module _ (m n nonzeros : ℕ) (list parts : List ℕ) (f : Figures) (out : List ℕ) (w : WriteAnswer)
+    (called : w ≡ writeCall m n nonzeros list parts f out) where
+  abbrev text : List ℕ
+  text = textOf m n nonzeros list parts f
 
-  written-as :
-      (text : List ℕ) → afterWriting w (textOf m n nonzeros list parts (figuresOf s volume floor)) ≡ text →
-      text ≡ afterShowing (show-answer.Split volume floor) s m n nonzeros list parts out
-  unfolding afterShowing
-  written-as text e = sym e ∙ ap (λ (x : WriteAnswer). afterWriting x (textOf m n nonzeros list parts (figuresOf s volume floor))) given-so
+  written-as : afterWriting w text ≡ printedAs (gives-split m n nonzeros list parts f) out
+  unfolding printedAs
+  written-as = ap (λ (x : WriteAnswer). afterWriting x text) called
 
   pub split-written :
       (new : List ℕ) (len : ℕ) → new ≡ writeOut m n nonzeros list parts f out → w ≡ write-answer.Written len →
-      Puts out 0 (afterShowing (show-answer.Split volume floor) s m n nonzeros list parts out) new len
+      Puts out 0 (printedAs (gives-split m n nonzeros list parts f) out) new len
   unfolding afterWriting
   split-written new len e h =
-      let F = figuresOf s volume floor in
-      let q = write-puts m n nonzeros list parts F out len (sym given-so ∙ h) in
-      let same = e ∙ ap (λ (g : Figures). writeOut m n nonzeros list parts g out) figures in
+      let q = write-puts m n nonzeros list parts f out len (sym called ∙ h) in
       puts-as
-      (written-as (textOf m n nonzeros list parts F) (ap (λ (x : WriteAnswer). afterWriting x (textOf m n nonzeros list parts F)) h))
-      (record { after = q .after; bytes = same ∙ q .bytes })
+      (ap (λ (x : WriteAnswer). afterWriting x text) (sym h) ∙ written-as)
+      (record { after = q .after; bytes = e ∙ q .bytes })
 
   pub split-refused :
       (left new : List ℕ) (r : ℕ) (word : Word) (place : ℕ) → left ≡ writeOut m n nonzeros list parts f out → w ≡ write-answer.Refused word place →
-      Puts left 0 (refusedText word place) new r →
-      Puts out 0 (afterShowing (show-answer.Split volume floor) s m n nonzeros list parts out) new r
+      Puts left 0 (refusedText word place) new r → Puts out 0 (printedAs (gives-split m n nonzeros list parts f) out) new r
   unfolding afterWriting
   split-refused left new r word place e h p =
-      let F = figuresOf s volume floor in
       let kept = e ∙ write-keeps m n nonzeros list parts f out word place (sym called ∙ h) in
-      puts-from
-      kept
-      (puts-as (written-as (refusedText word place) (ap (λ (x : WriteAnswer). afterWriting x (textOf m n nonzeros list parts F)) h)) p)
+      puts-as
+      (ap (λ (x : WriteAnswer). afterWriting x text) (sym h) ∙ written-as)
+      (record { after = p .after; bytes = p .bytes ∙ ap (λ (x : List ℕ). sets x 0 (refusedText word place)) kept })
 
--- what is shown
-module _ (s : Search) (m n nonzeros : ℕ) (list parts out : List ℕ) where
+-- a showing: the line, or the split
+module _ (s : Search) (rest m n nonzeros : ℕ) (list parts : List ℕ) (a : ShowAnswer)
+    (called : a ≡ showCall s m n nonzeros list partsRoom) (given : parts ≡ showParts s m n nonzeros list partsRoom) where
+  search-shown : afterShowing a s rest m n nonzeros list parts ≡ searchAnswer s rest m n nonzeros list
+  unfolding searchAnswer
+  search-shown = rw (called, given)
+
   line-so :
-      (a : ShowAnswer) → OneOf (1 ∷ 2 ∷ []) (tagOf (declared show-enum) a) →
-      lineText a (s .cap) (s .tries) ≡ afterShowing a s m n nonzeros list parts out
-  unfolding lineText afterShowing
-  line-so (show-answer.Split volume floor) h = ⊎-elim (λ e. no-way (omega arith)) (λ e. no-way (omega arith)) h
-  line-so (show-answer.NoneYet floor) h = refl
-  line-so (show-answer.Refused word place) h = refl
+      (out : List ℕ) (x : ShowAnswer) → OneOf (1 ∷ 2 ∷ []) (tagOf (declared show-enum) x) →
+      lineText x (s .cap) rest (s .tries) ≡ printedAs (afterShowing x s rest m n nonzeros list parts) out
+  unfolding lineText afterShowing printedAs
+  line-so out (show-answer.Split volume floor) h = ⊎-elim (λ e. no-way (omega arith)) (λ e. no-way (omega arith)) h
+  line-so out (show-answer.NoneYet floor) h = refl
+  line-so out (show-answer.Refused word place) h = refl
 
-  module _ (a : ShowAnswer) (new : List ℕ) (r : ℕ) where
-    pub shown-line :
-        OneOf (1 ∷ 2 ∷ []) (tagOf (declared show-enum) a) → Puts out 0 (lineText a (s .cap) (s .tries)) new r →
-        Puts out 0 (afterShowing a s m n nonzeros list parts out) new r
-    shown-line h p = puts-as (line-so a h) p
+  pub shown-line :
+      {out new : List ℕ} {r : ℕ} → OneOf (1 ∷ 2 ∷ []) (tagOf (declared show-enum) a) → Puts out 0 (lineText a (s .cap) rest (s .tries)) new r →
+      Puts out 0 (printedAs (searchAnswer s rest m n nonzeros list) out) new r
+  shown-line {out} h p = prints-answer search-shown (puts-as (line-so out a h) p)
 
-    pub shown-split :
-        (volume floor : ℕ) → a ≡ show-answer.Split volume floor →
-        Puts out 0 (afterShowing (show-answer.Split volume floor) s m n nonzeros list parts out) new r →
-        Puts out 0 (afterShowing a s m n nonzeros list parts out) new r
-    shown-split volume floor h p = puts-as (ap (λ (x : ShowAnswer). afterShowing x s m n nonzeros list parts out) (sym h)) p
-
--- a showing
-pub search-shown :
-    (s : Search) (m n nonzeros : ℕ) (list parts out new : List ℕ) (r : ℕ) (a : ShowAnswer) →
-    a ≡ showCall s m n nonzeros list partsRoom → parts ≡ showParts s m n nonzeros list partsRoom →
-    Puts out 0 (afterShowing a s m n nonzeros list parts out) new r → Puts out 0 (searchText s m n nonzeros list out) new r
-unfolding searchText
-search-shown s m n nonzeros list parts out new r a e d p =
-    puts-as
-    (ap (λ (x : ShowAnswer). afterShowing x s m n nonzeros list parts out) e
-    ∙ ap (λ (b : List ℕ). afterShowing (showCall s m n nonzeros list partsRoom) s m n nonzeros list b out) d)
-    p
+  pub shown-split :
+      (volume floor : ℕ) (f : Figures) → a ≡ show-answer.Split volume floor → f ≡ figuresOf s rest volume floor →
+      gives-split m n nonzeros list parts f ≡ searchAnswer s rest m n nonzeros list
+  unfolding afterShowing
+  shown-split volume floor f h figures =
+      ap (gives-split m n nonzeros list parts) figures
+      ∙ ap (λ (x : ShowAnswer). afterShowing x s rest m n nonzeros list parts) (sym h)
+      ∙ search-shown
 
 -- what a run answered
-module _ (ran call : Ran) (m n nonzeros : ℕ) (list out new : List ℕ) (r : ℕ) (called : ran ≡ call) where
+module _ (ran call : Ran) (rest m n nonzeros : ℕ) (list : List ℕ) (called : ran ≡ call) where
   run-shown :
       (a : RunAnswer) → (tagOf (declared run-enum) a ≡ 0) ⊎ (tagOf (declared run-enum) a ≡ 1) →
-      searchText (ran .search) m n nonzeros list out ≡ afterRun a (ran .search) m n nonzeros list out
+      searchAnswer (ran .search) rest m n nonzeros list ≡ afterRun a (ran .search) rest m n nonzeros list
   unfolding afterRun
   run-shown run-answer.Complete h = refl
   run-shown run-answer.Stopped h = refl
   run-shown (run-answer.Refused word place) h = ⊎-elim (λ e. no-way (omega arith)) (λ e. no-way (omega arith)) h
 
+  ran-so : afterRun (ran .answer) (ran .search) rest m n nonzeros list ≡ ranAnswer call rest m n nonzeros list
+  unfolding ranAnswer
+  ran-so = rw called
+
   pub ran-shown :
       (tagOf (declared run-enum) (ran .answer) ≡ 0) ⊎ (tagOf (declared run-enum) (ran .answer) ≡ 1) →
-      Puts out 0 (searchText (ran .search) m n nonzeros list out) new r → Puts out 0 (ranText call m n nonzeros list out) new r
-  unfolding ranText
-  ran-shown h p = puts-as (run-shown (ran .answer) h ∙ ap (λ (x : Ran). ranText x m n nonzeros list out) called) p
+      searchAnswer (ran .search) rest m n nonzeros list ≡ ranAnswer call rest m n nonzeros list
+  ran-shown h = run-shown (ran .answer) h ∙ ran-so
 
-  pub ran-refused :
-      (word : Word) (place : ℕ) → ran .answer ≡ run-answer.Refused word place → Puts out 0 (refusedText word place) new r →
-      Puts out 0 (ranText call m n nonzeros list out) new r
-  unfolding ranText afterRun
-  ran-refused word place e p =
-      puts-as
-      (ap (λ (a : RunAnswer). afterRun a (ran .search) m n nonzeros list out) (sym e)
-      ∙ ap (λ (x : Ran). ranText x m n nonzeros list out) called)
-      p
+  pub ran-refused : (word : Word) (place : ℕ) → ran .answer ≡ run-answer.Refused word place → gives-refusal word place ≡ ranAnswer call rest m n nonzeros list
+  unfolding afterRun
+  ran-refused word place e = ap (λ (a : RunAnswer). afterRun a (ran .search) rest m n nonzeros list) (sym e) ∙ ran-so
 
 -- what an opening answered
-module _ (opened call : Opened) (m n nonzeros : ℕ) (list : List ℕ) (budget : ℕ) (out new : List ℕ) (r : ℕ) (called : opened ≡ call) where
+module _ (opened call : Opened) (rest m n nonzeros : ℕ) (list : List ℕ) (budget : ℕ) (called : opened ≡ call) where
+  opened-as :
+      (v : Verdict) → opened .verdict ≡ v → afterOpening v (opened .search) rest m n nonzeros list budget ≡ openedAnswer call rest m n nonzeros list budget
+  unfolding openedAnswer
+  opened-as v e = ap (λ (x : Verdict). afterOpening x (opened .search) rest m n nonzeros list budget) (sym e) ∙ rw called
+
   pub opened-run :
       opened .verdict ≡ Accepted →
-      Puts out 0 (ranText (runCall (opened .search) m n nonzeros list budget) m n nonzeros list out) new r →
-      Puts out 0 (openedText call m n nonzeros list budget out) new r
-  unfolding openedText afterOpening
-  opened-run e p =
-      puts-as
-      (ap (λ (v : Verdict). afterOpening v (opened .search) m n nonzeros list budget out) (sym e)
-      ∙ ap (λ (x : Opened). openedText x m n nonzeros list budget out) called)
-      p
+      ranAnswer (runCall (opened .search) m n nonzeros list budget) rest m n nonzeros list ≡ openedAnswer call rest m n nonzeros list budget
+  unfolding afterOpening
+  opened-run e = opened-as Accepted e
 
-  pub opened-refused :
-      (word : Word) (place : ℕ) → opened .verdict ≡ Refused word place → Puts out 0 (refusedText word place) new r →
-      Puts out 0 (openedText call m n nonzeros list budget out) new r
-  unfolding openedText afterOpening
-  opened-refused word place e p =
-      puts-as
-      (ap (λ (v : Verdict). afterOpening v (opened .search) m n nonzeros list budget out) (sym e)
-      ∙ ap (λ (x : Opened). openedText x m n nonzeros list budget out) called)
-      p
+  pub opened-refused : (word : Word) (place : ℕ) → opened .verdict ≡ Refused word place → gives-refusal word place ≡ openedAnswer call rest m n nonzeros list budget
+  unfolding afterOpening
+  opened-refused word place e = opened-as (Refused word place) e
 
 -- what the cap from a percentage answered
-module _ (a call : CapAnswer) (m n nonzeros : ℕ) (list : List ℕ) (budget : ℕ) (out new : List ℕ) (r : ℕ) (called : a ≡ call) where
-  pub capped-opened :
-      (cap : ℕ) → a ≡ cap-answer.Capped cap →
-      Puts out 0 (openedText (openCall m n nonzeros list cap) m n nonzeros list budget out) new r →
-      Puts out 0 (afterCap call m n nonzeros list budget out) new r
-  unfolding afterCap
-  capped-opened cap e p = puts-as (ap (λ (x : CapAnswer). afterCap x m n nonzeros list budget out) (sym e ∙ called)) p
+module _ (a call : CapAnswer) (m n nonzeros : ℕ) (list : List ℕ) (budget : ℕ) (called : a ≡ call) where
+  pub capped-as : (x : CapAnswer) → a ≡ x → afterCap x m n nonzeros list budget ≡ afterCap call m n nonzeros list budget
+  capped-as x e = ap (λ (y : CapAnswer). afterCap y m n nonzeros list budget) (sym e ∙ called)
 
-  pub capped-refused :
-      (word : Word) (place : ℕ) → a ≡ cap-answer.Refused word place → Puts out 0 (refusedText word place) new r →
-      Puts out 0 (afterCap call m n nonzeros list budget out) new r
+  pub capped-opened :
+      (cap rest : ℕ) → a ≡ cap-answer.Capped cap rest →
+      openedAnswer (openCall m n nonzeros list cap) rest m n nonzeros list budget ≡ afterCap call m n nonzeros list budget
   unfolding afterCap
-  capped-refused word place e p = puts-as (ap (λ (x : CapAnswer). afterCap x m n nonzeros list budget out) (sym e ∙ called)) p
+  capped-opened cap rest e = capped-as (cap-answer.Capped cap rest) e
+
+  pub capped-refused : (word : Word) (place : ℕ) → a ≡ cap-answer.Refused word place → gives-refusal word place ≡ afterCap call m n nonzeros list budget
+  unfolding afterCap
+  capped-refused word place e = capped-as (cap-answer.Refused word place) e
 
 -- what a reading answered and gave
-module _ (text list : List ℕ) (percent budget : ℕ) (out new : List ℕ) (r : ℕ) (a : ReadAnswer)
-    (e : a ≡ readCall text listRoom partsRoom) where
+module _ (text list : List ℕ) (percent budget : ℕ) (a : ReadAnswer) (e : a ≡ readCall text listRoom partsRoom) where
+  read-as : (x : ReadAnswer) → a ≡ x → afterReading x (readList text listRoom partsRoom) percent budget ≡ patternAnswer text percent budget
+  unfolding patternAnswer
+  read-as x h = ap (λ (y : ReadAnswer). afterReading y (readList text listRoom partsRoom) percent budget) (sym h ∙ e)
+
   pub read-capped :
       (m n nonzeros : ℕ) (integer : Bool) → a ≡ read-answer.Read m n nonzeros integer → list ≡ readList text listRoom partsRoom →
-      Puts out 0 (afterCap (capCall nonzeros percent) m n nonzeros list budget out) new r →
-      Puts out 0 (patternText text percent budget out) new r
-  unfolding patternText afterReading
-  read-capped m n nonzeros integer h given p =
-      puts-as
-      (ap (λ (x : ReadAnswer). afterReading x list percent budget out) (sym h ∙ e)
-      ∙ ap (λ (l : List ℕ). afterReading (readCall text listRoom partsRoom) l percent budget out) given)
-      p
+      afterCap (capCall nonzeros percent) m n nonzeros list budget ≡ patternAnswer text percent budget
+  unfolding afterReading
+  read-capped m n nonzeros integer h given =
+      ap (λ (l : List ℕ). afterCap (capCall nonzeros percent) m n nonzeros l budget) given ∙ read-as (read-answer.Read m n nonzeros integer) h
 
-  pub read-refused :
-      (word : Word) (place : ℕ) → a ≡ read-answer.Refused word place → Puts out 0 (refusedText word place) new r →
-      Puts out 0 (patternText text percent budget out) new r
-  unfolding patternText afterReading
-  read-refused word place h p =
-      puts-as
-      (ap (λ (x : ReadAnswer). afterReading x (readList text listRoom partsRoom) percent budget out) (sym h ∙ e))
-      p
+  pub read-refused : (word : Word) (place : ℕ) → a ≡ read-answer.Refused word place → gives-refusal word place ≡ patternAnswer text percent budget
+  unfolding afterReading
+  read-refused word place h = read-as (read-answer.Refused word place) h
 
 -- the command that the first line gives
-module _ (input out new : List ℕ) (r : ℕ) (o : Command) (e : o ≡ commandOf input) where
-  pub command-other : o .fine ≡ false → Puts out 0 (refusedText EntryForm 0) new r → Puts out 0 (answerText input out) new r
-  unfolding answerText
-  command-other h p =
-      puts-as
-      (sym (pick-false (patternText (drop (commandOf input .next) input) (commandOf input .percent) (commandOf input .budget) out) (refusedText EntryForm 0) (ap (λ (x : Command). x .fine) (sym e) ∙ h)))
-      p
+module _ (input : List ℕ) (o : Command) (e : o ≡ commandOf input) where
+  abbrev text-answer : Answer
+  text-answer = patternAnswer (drop (commandOf input .next) input) (commandOf input .percent) (commandOf input .budget)
+
+  pub command-other : o .fine ≡ false → gives-refusal EntryForm 0 ≡ answerTo input
+  unfolding answerTo
+  command-other h = sym (pick-false text-answer (gives-refusal EntryForm 0) (ap (λ (x : Command). x .fine) (sym e) ∙ h))
 
   pub command-text :
-      o .fine ≡ true → Puts out 0 (patternText (take (length input - o .next) (drop (o .next) input)) (o .percent) (o .budget) out) new r →
-      Puts out 0 (answerText input out) new r
-  unfolding answerText
-  command-text h p =
-      puts-as
-      (ap (λ (text : List ℕ). patternText text (o .percent) (o .budget) out) (part-to-end input (o .next))
-      ∙ ap (λ (x : Command). patternText (drop (x .next) input) (x .percent) (x .budget) out) e
-      ∙ sym (pick-true (patternText (drop (commandOf input .next) input) (commandOf input .percent) (commandOf input .budget) out) (refusedText EntryForm 0) (ap (λ (x : Command). x .fine) (sym e) ∙ h)))
-      p
+      o .fine ≡ true → patternAnswer (take (length input - o .next) (drop (o .next) input)) (o .percent) (o .budget) ≡ answerTo input
+  unfolding answerTo
+  command-text h =
+      ap (λ (l : List ℕ). patternAnswer l (o .percent) (o .budget)) (part-to-end input (o .next))
+      ∙ ap (λ (x : Command). patternAnswer (drop (x .next) input) (x .percent) (x .budget)) e
+      ∙ sym (pick-true text-answer (gives-refusal EntryForm 0) (ap (λ (x : Command). x .fine) (sym e) ∙ h))
 
   -- a fine command has its LF in the input
   pub command-room : o .fine ≡ true → o .next ≤ length input

@@ -1,9 +1,10 @@
--- Document 01, 'Texts': what the program prints, step by step.
+-- Document 01, 'Texts', with the rest of document 02's request 4: what the program prints, step by step.
 -- Assumes nothing.
 use mathlib.Core.List.{List, []}
 use Prim.Native.Nat.{ℕ, _*_}
 use lib.ListN.{drop, replicate}
 use Rattle.counting.specs.Tests.{pick}
+use Rattle.model.specs.declared.Word.{Word}
 use Rattle.model.specs.declared.Word.the-variants.{EntryForm}
 use Rattle.model.specs.declared.Verdict.{Verdict}
 use Rattle.model.specs.declared.Verdict.the-variants.{Accepted, Refused}
@@ -37,93 +38,110 @@ listRoom = replicate (entryBytes * nonzeroLimit) 0
 abbrev pub partsRoom : List ℕ
 partsRoom = replicate nonzeroLimit 0
 
--- the figures of the comment
-unfoldable pub figuresOf : Search → ℕ → ℕ → Figures
-figuresOf s volume floor =
-    record {
-      volume = volume;
-      cap = s .cap;
-      tries = s .tries;
-      floor = floor;
-      complete = completeNumber (s .complete);
-    }
+-- an answer: a split with its figures, "none yet", or a refusal
+pub data Answer : Type 0 where
+  gives-split : (m n nonzeros : ℕ) (list parts : List ℕ) (f : Figures) → Answer
+  gives-none : (cap rest tries floor : ℕ) → Answer
+  gives-refusal : (word : Word) (place : ℕ) → Answer
 
 -- the text written, or the writer's refusal
 unfoldable pub afterWriting : WriteAnswer → List ℕ → List ℕ
 afterWriting (write-answer.Written len) text = text
 afterWriting (write-answer.Refused word place) text = refusedText word place
 
--- the line of an answer without a split: "none yet", or a refusal
-unfoldable pub lineText : ShowAnswer → ℕ → ℕ → List ℕ
-lineText (show-answer.Split volume floor) cap tries = []
-lineText (show-answer.NoneYet floor) cap tries = noneText cap tries floor
-lineText (show-answer.Refused word place) cap tries = refusedText word place
+-- an answer as it is printed; the output's length counts for the writer alone
+unfoldable pub printedAs : Answer → List ℕ → List ℕ
+printedAs (gives-split m n nonzeros list parts f) out =
+    afterWriting (writeCall m n nonzeros list parts f out) (textOf m n nonzeros list parts f)
+printedAs (gives-none cap rest tries floor) out = noneText cap rest tries floor
+printedAs (gives-refusal word place) out = refusedText word place
 
--- the split, "none yet", or a refusal; the output's length counts for the writer alone
-unfoldable pub afterShowing : ShowAnswer → Search → ℕ → ℕ → ℕ → List ℕ → List ℕ → List ℕ → List ℕ
-afterShowing (show-answer.Split volume floor) s m n nonzeros list parts out =
-    afterWriting
-    (writeCall m n nonzeros list parts (figuresOf s volume floor) out)
-    (textOf m n nonzeros list parts (figuresOf s volume floor))
-afterShowing (show-answer.NoneYet floor) s m n nonzeros list parts out = noneText (s .cap) (s .tries) floor
-afterShowing (show-answer.Refused word place) s m n nonzeros list parts out = refusedText word place
+-- the line of an answer without a split: "none yet", or a refusal
+unfoldable pub lineText : ShowAnswer → ℕ → ℕ → ℕ → List ℕ
+lineText (show-answer.Split volume floor) cap rest tries = []
+lineText (show-answer.NoneYet floor) cap rest tries = noneText cap rest tries floor
+lineText (show-answer.Refused word place) cap rest tries = refusedText word place
+
+-- the figures of the comment
+unfoldable pub figuresOf : Search → ℕ → ℕ → ℕ → Figures
+figuresOf s rest volume floor =
+    record {
+      volume = volume;
+      cap = s .cap;
+      rest = rest;
+      tries = s .tries;
+      floor = floor;
+      complete = completeNumber (s .complete);
+    }
+
+-- after the showing
+unfoldable pub afterShowing : ShowAnswer → Search → ℕ → ℕ → ℕ → ℕ → List ℕ → List ℕ → Answer
+afterShowing (show-answer.Split volume floor) s rest m n nonzeros list parts =
+    gives-split m n nonzeros list parts (figuresOf s rest volume floor)
+afterShowing (show-answer.NoneYet floor) s rest m n nonzeros list parts =
+    gives-none (s .cap) rest (s .tries) floor
+afterShowing (show-answer.Refused word place) s rest m n nonzeros list parts = gives-refusal word place
 
 -- a showing of a search
-unfoldable pub searchText : Search → ℕ → ℕ → ℕ → List ℕ → List ℕ → List ℕ
-searchText s m n nonzeros list out =
+unfoldable pub searchAnswer : Search → ℕ → ℕ → ℕ → ℕ → List ℕ → Answer
+searchAnswer s rest m n nonzeros list =
     afterShowing
     (showCall s m n nonzeros list partsRoom)
     s
+    rest
     m
     n
     nonzeros
     list
     (showParts s m n nonzeros list partsRoom)
-    out
 
 -- after the run
-unfoldable pub afterRun : RunAnswer → Search → ℕ → ℕ → ℕ → List ℕ → List ℕ → List ℕ
-afterRun run-answer.Complete s m n nonzeros list out = searchText s m n nonzeros list out
-afterRun run-answer.Stopped s m n nonzeros list out = searchText s m n nonzeros list out
-afterRun (run-answer.Refused word place) s m n nonzeros list out = refusedText word place
+unfoldable pub afterRun : RunAnswer → Search → ℕ → ℕ → ℕ → ℕ → List ℕ → Answer
+afterRun run-answer.Complete s rest m n nonzeros list = searchAnswer s rest m n nonzeros list
+afterRun run-answer.Stopped s rest m n nonzeros list = searchAnswer s rest m n nonzeros list
+afterRun (run-answer.Refused word place) s rest m n nonzeros list = gives-refusal word place
 
 -- one run
-unfoldable pub ranText : Ran → ℕ → ℕ → ℕ → List ℕ → List ℕ → List ℕ
-ranText ran m n nonzeros list out = afterRun (ran .answer) (ran .search) m n nonzeros list out
+unfoldable pub ranAnswer : Ran → ℕ → ℕ → ℕ → ℕ → List ℕ → Answer
+ranAnswer ran rest m n nonzeros list = afterRun (ran .answer) (ran .search) rest m n nonzeros list
 
 -- after the opening
-unfoldable pub afterOpening : Verdict → Search → ℕ → ℕ → ℕ → List ℕ → ℕ → List ℕ → List ℕ
-afterOpening Accepted s m n nonzeros list budget out =
-    ranText (runCall s m n nonzeros list budget) m n nonzeros list out
-afterOpening (Refused word place) s m n nonzeros list budget out = refusedText word place
+unfoldable pub afterOpening : Verdict → Search → ℕ → ℕ → ℕ → ℕ → List ℕ → ℕ → Answer
+afterOpening Accepted s rest m n nonzeros list budget =
+    ranAnswer (runCall s m n nonzeros list budget) rest m n nonzeros list
+afterOpening (Refused word place) s rest m n nonzeros list budget = gives-refusal word place
 
 -- the opening
-unfoldable pub openedText : Opened → ℕ → ℕ → ℕ → List ℕ → ℕ → List ℕ → List ℕ
-openedText opened m n nonzeros list budget out =
-    afterOpening (opened .verdict) (opened .search) m n nonzeros list budget out
+unfoldable pub openedAnswer : Opened → ℕ → ℕ → ℕ → ℕ → List ℕ → ℕ → Answer
+openedAnswer opened rest m n nonzeros list budget =
+    afterOpening (opened .verdict) (opened .search) rest m n nonzeros list budget
 
 -- after the cap from a percentage
-unfoldable pub afterCap : CapAnswer → ℕ → ℕ → ℕ → List ℕ → ℕ → List ℕ → List ℕ
-afterCap (cap-answer.Capped cap) m n nonzeros list budget out =
-    openedText (openCall m n nonzeros list cap) m n nonzeros list budget out
-afterCap (cap-answer.Refused word place) m n nonzeros list budget out = refusedText word place
+unfoldable pub afterCap : CapAnswer → ℕ → ℕ → ℕ → List ℕ → ℕ → Answer
+afterCap (cap-answer.Capped cap rest) m n nonzeros list budget =
+    openedAnswer (openCall m n nonzeros list cap) rest m n nonzeros list budget
+afterCap (cap-answer.Refused word place) m n nonzeros list budget = gives-refusal word place
 
 -- after the reading (parts unused)
-unfoldable pub afterReading : ReadAnswer → List ℕ → ℕ → ℕ → List ℕ → List ℕ
-afterReading (read-answer.Read m n nonzeros integer) list percent budget out =
-    afterCap (capCall nonzeros percent) m n nonzeros list budget out
-afterReading (read-answer.Refused word place) list percent budget out = refusedText word place
+unfoldable pub afterReading : ReadAnswer → List ℕ → ℕ → ℕ → Answer
+afterReading (read-answer.Read m n nonzeros integer) list percent budget =
+    afterCap (capCall nonzeros percent) m n nonzeros list budget
+afterReading (read-answer.Refused word place) list percent budget = gives-refusal word place
 
 -- a text under a percentage, with a budget
-unfoldable pub patternText : List ℕ → ℕ → ℕ → List ℕ → List ℕ
-patternText text percent budget out =
-    afterReading (readCall text listRoom partsRoom) (readList text listRoom partsRoom) percent budget out
+unfoldable pub patternAnswer : List ℕ → ℕ → ℕ → Answer
+patternAnswer text percent budget =
+    afterReading (readCall text listRoom partsRoom) (readList text listRoom partsRoom) percent budget
 
 -- the whole input: another form of the first line is refusal 3 at 0, before all else; then the text
-unfoldable pub answerText : List ℕ → List ℕ → List ℕ
-answerText input out =
+unfoldable pub answerTo : List ℕ → Answer
+answerTo input =
     let command = commandOf input in
     pick
     (command .fine)
-    (patternText (drop (command .next) input) (command .percent) (command .budget) out)
-    (refusedText EntryForm 0)
+    (patternAnswer (drop (command .next) input) (command .percent) (command .budget))
+    (gives-refusal EntryForm 0)
+
+-- what is printed
+unfoldable pub answerText : List ℕ → List ℕ → List ℕ
+answerText input out = printedAs (answerTo input) out

@@ -16,18 +16,18 @@ use writing::write::lines::put_none;
 use writing::write::lines::put_refused;
 use writing::write::write;
 ghost use mathlib.Core.Path.{_≡_};
-ghost use Rattle.model.specs.declared.ShowAnswer.the-variants.{Split};
 ghost use Rattle.model.specs.Calls.{capCall, openCall, runCall};
 ghost use Rattle.writing.specs.Written.{Puts};
-ghost use Rattle.answering.specs.Answer.{figuresOf, lineText, afterShowing, searchText, ranText, openedText, afterCap, patternText, answerText};
+ghost use Rattle.answering.specs.Answer.{gives-split, printedAs, lineText, figuresOf, searchAnswer, ranAnswer, openedAnswer, afterCap, patternAnswer, answerText};
 
 // The figures of a search with a split to show.
-fn figures_of(search: Search, volume: u64, floor: u64) -> Figures
-    ensures { λ r. ⌜ r ≡ figuresOf search volume floor ⌝ }
+fn figures_of(search: Search, rest: u64, volume: u64, floor: u64) -> Figures
+    ensures { λ r. ⌜ r ≡ figuresOf search rest volume floor ⌝ }
 {
     Figures {
         volume,
         cap: search.cap,
+        rest,
         tries: search.tries,
         floor,
         complete: complete_number(search.complete),
@@ -41,14 +41,11 @@ fn put_split(
     nonzeros: u64,
     list: &[u8],
     parts: &[u8],
-    search: Search,
-    volume: u64,
-    floor: u64,
+    figures: Figures,
     out: &mut [u8],
 ) -> usize
-    ensures { λ r. ⌜ Puts (now (out .entry)) 0 (afterShowing (Split volume floor) search m n nonzeros (now (list .entry)) (now (parts .entry)) (now (out .entry))) (now (out .exit)) r ⌝ }
+    ensures { λ r. ⌜ Puts (now (out .entry)) 0 (printedAs (gives-split m n nonzeros (now (list .entry)) (now (parts .entry)) figures) (now (out .entry))) (now (out .exit)) r ⌝ }
 {
-    let figures = figures_of(search, volume, floor);
     let written = write(m, n, nonzeros, list, parts, figures, out);
     match written {
         WriteAnswer::Written(len) => len as usize,
@@ -57,34 +54,44 @@ fn put_split(
 }
 
 // Writes the line of an answer without a split.
-fn put_line(shown: ShowAnswer, cap: u64, tries: u64, out: &mut [u8]) -> usize
-    ensures { λ r. ⌜ Puts (now (out .entry)) 0 (lineText shown cap tries) (now (out .exit)) r ⌝ }
+fn put_line(shown: ShowAnswer, cap: u64, rest: u64, tries: u64, out: &mut [u8]) -> usize
+    ensures { λ r. ⌜ Puts (now (out .entry)) 0 (lineText shown cap rest tries) (now (out .exit)) r ⌝ }
 {
     match shown {
         ShowAnswer::Split {
             volume: _,
             floor: _,
         } => 0,
-        ShowAnswer::NoneYet { floor } => put_none(out, cap, tries, floor),
+        ShowAnswer::NoneYet { floor } => put_none(out, cap, rest, tries, floor),
         ShowAnswer::Refused(word, place) => put_refused(out, word, place),
     }
 }
 
 // Shows a search and prints what it shows: the split, or "none yet".
-fn put_search(search: Search, m: u64, n: u64, nonzeros: u64, list: &[u8], out: &mut [u8]) -> usize
-    ensures { λ r. ⌜ Puts (now (out .entry)) 0 (searchText search m n nonzeros (now (list .entry)) (now (out .entry))) (now (out .exit)) r ⌝ }
+fn put_search(
+    search: Search,
+    rest: u64,
+    m: u64,
+    n: u64,
+    nonzeros: u64,
+    list: &[u8],
+    out: &mut [u8],
+) -> usize
+    ensures { λ r. ⌜ Puts (now (out .entry)) 0 (printedAs (searchAnswer search rest m n nonzeros (now (list .entry))) (now (out .entry))) (now (out .exit)) r ⌝ }
 {
     let mut parts = [0u8; 2000];
     let shown = search::show(search, m, n, nonzeros, list, &mut parts);
     let ShowAnswer::Split { volume, floor } = shown else {
-        return put_line(shown, search.cap, search.tries, out);
+        return put_line(shown, search.cap, rest, search.tries, out);
     };
-    put_split(m, n, nonzeros, list, &parts, search, volume, floor, out)
+    let figures = figures_of(search, rest, volume, floor);
+    put_split(m, n, nonzeros, list, &parts, figures, out)
 }
 
 // Runs a search and prints what it shows.
 fn put_run(
     search: Search,
+    rest: u64,
     m: u64,
     n: u64,
     nonzeros: u64,
@@ -92,14 +99,14 @@ fn put_run(
     budget: u64,
     out: &mut [u8],
 ) -> usize
-    ensures { λ r. ⌜ Puts (now (out .entry)) 0 (ranText (runCall search m n nonzeros (now (list .entry)) budget) m n nonzeros (now (list .entry)) (now (out .entry))) (now (out .exit)) r ⌝ }
+    ensures { λ r. ⌜ Puts (now (out .entry)) 0 (printedAs (ranAnswer (runCall search m n nonzeros (now (list .entry)) budget) rest m n nonzeros (now (list .entry))) (now (out .entry))) (now (out .exit)) r ⌝ }
 {
     let ran = search::run(search, m, n, nonzeros, list, budget);
     let answer = ran.answer;
     let after = ran.search;
     match answer {
-        RunAnswer::Complete => put_search(after, m, n, nonzeros, list, out),
-        RunAnswer::Stopped => put_search(after, m, n, nonzeros, list, out),
+        RunAnswer::Complete => put_search(after, rest, m, n, nonzeros, list, out),
+        RunAnswer::Stopped => put_search(after, rest, m, n, nonzeros, list, out),
         RunAnswer::Refused(word, place) => put_refused(out, word, place),
     }
 }
@@ -111,16 +118,17 @@ fn put_opening(
     nonzeros: u64,
     list: &[u8],
     cap: u64,
+    rest: u64,
     budget: u64,
     out: &mut [u8],
 ) -> usize
-    ensures { λ r. ⌜ Puts (now (out .entry)) 0 (openedText (openCall m n nonzeros (now (list .entry)) cap) m n nonzeros (now (list .entry)) budget (now (out .entry))) (now (out .exit)) r ⌝ }
+    ensures { λ r. ⌜ Puts (now (out .entry)) 0 (printedAs (openedAnswer (openCall m n nonzeros (now (list .entry)) cap) rest m n nonzeros (now (list .entry)) budget) (now (out .entry))) (now (out .exit)) r ⌝ }
 {
     let opened = search::open(m, n, nonzeros, list, cap);
     let verdict = opened.verdict;
     let fresh = opened.search;
     match verdict {
-        Verdict::Accepted => put_run(fresh, m, n, nonzeros, list, budget, out),
+        Verdict::Accepted => put_run(fresh, rest, m, n, nonzeros, list, budget, out),
         Verdict::Refused(word, place) => put_refused(out, word, place),
     }
 }
@@ -135,18 +143,20 @@ fn put_pattern(
     budget: u64,
     out: &mut [u8],
 ) -> usize
-    ensures { λ r. ⌜ Puts (now (out .entry)) 0 (afterCap (capCall nonzeros percent) m n nonzeros (now (list .entry)) budget (now (out .entry))) (now (out .exit)) r ⌝ }
+    ensures { λ r. ⌜ Puts (now (out .entry)) 0 (printedAs (afterCap (capCall nonzeros percent) m n nonzeros (now (list .entry)) budget) (now (out .entry))) (now (out .exit)) r ⌝ }
 {
     let capped = cap_from_percent(nonzeros, percent);
     match capped {
-        CapAnswer::Capped(cap) => put_opening(m, n, nonzeros, list, cap, budget, out),
+        CapAnswer::Capped { cap, rest } => {
+            put_opening(m, n, nonzeros, list, cap, rest, budget, out)
+        }
         CapAnswer::Refused(word, place) => put_refused(out, word, place),
     }
 }
 
 // Reads a text, splits its pattern and prints the answer.
 fn put_text(text: &[u8], percent: u64, budget: u64, out: &mut [u8]) -> usize
-    ensures { λ r. ⌜ Puts (now (out .entry)) 0 (patternText (now (text .entry)) percent budget (now (out .entry))) (now (out .exit)) r ⌝ }
+    ensures { λ r. ⌜ Puts (now (out .entry)) 0 (printedAs (patternAnswer (now (text .entry)) percent budget) (now (out .entry))) (now (out .exit)) r ⌝ }
 {
     let mut list = [0u8; 4000];
     let mut parts = [0u8; 2000];

@@ -15,6 +15,7 @@ fn write_once(m: u64, n: u64, nonzeros: u64, list: &[u8], parts: &[u8], out: &mu
     let figures = Figures {
         volume: u64::MAX,
         cap: u64::MAX,
+        rest: u64::MAX,
         tries: u64::MAX,
         floor: u64::MAX,
         complete: 1,

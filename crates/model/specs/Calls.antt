@@ -22,7 +22,7 @@ use Rattle.model.specs.declared.ShowAnswer.the-variants as show-answer
 use Rattle.model.specs.Limits.{lineLimit, nonzeroLimit, capLimit, percentLimit, budgetLimit, triesLimit}
 use Rattle.model.specs.Refusal.{Reply, given, noneYet, refusal, replyAfter, verdictReply, replyCode, refuse, _then_, eachVerdict}
 use Rattle.model.specs.Pattern.{Pattern, entryBytes, rowIn, columnIn, patternOf}
-use Rattle.model.specs.Split.{Split, partNumber, volume, capFromPercent}
+use Rattle.model.specs.Split.{Split, partNumber, volume, capFromPercent, restFromPercent}
 use Rattle.model.specs.Marking.{marking}
 use Rattle.model.specs.Walk.{Record, rulesOf, freshOf, walk, floor, shownSplit}
 use Rattle.model.specs.State.{recordOf, searchOf, stateFine}
@@ -91,7 +91,8 @@ capVerdict nonzeros percent =
 
 -- what the cap from e answers, after this verdict
 unfoldable pub capAfter : Verdict → ℕ → ℕ → CapAnswer
-capAfter Accepted nonzeros percent = cap-answer.Capped (capFromPercent nonzeros percent)
+capAfter Accepted nonzeros percent =
+    cap-answer.Capped (capFromPercent nonzeros percent) (restFromPercent nonzeros percent)
 capAfter (Refused word place) nonzeros percent = cap-answer.Refused word place
 
 -- what the cap from e answers
@@ -203,9 +204,9 @@ showParts s m n nonzeros list parts =
     (patternOf m n nonzeros list)
     parts
 
--- the number and values of each case of an answer: the cap
+-- the number and values of each case of an answer: the cap and the rest
 unfoldable pub capReply : CapAnswer → Reply
-capReply (cap-answer.Capped cap) = given (cap ∷ [])
+capReply (cap-answer.Capped cap rest) = given (cap ∷ rest ∷ [])
 capReply (cap-answer.Refused word place) = refusal word place
 
 -- complete 0 or 1
@@ -235,7 +236,9 @@ openReplies m n nonzeros list cap = verdictReply (openVerdict m n nonzeros list 
 -- the cap from e
 unfoldable pub capReplies : ℕ → ℕ → Reply
 capReplies nonzeros percent =
-    replyAfter (capVerdict nonzeros percent) (given (capFromPercent nonzeros percent ∷ []))
+    replyAfter
+    (capVerdict nonzeros percent)
+    (given (capFromPercent nonzeros percent ∷ restFromPercent nonzeros percent ∷ []))
 
 -- a run
 unfoldable pub runReplies : Search → ℕ → ℕ → ℕ → List ℕ → ℕ → Reply

@@ -21,7 +21,7 @@ use Rattle.model.specs.declared.ShowAnswer.{ShowAnswer}
 use Rattle.model.specs.declared.ShowAnswer.the-variants.{NoneYet}
 use Rattle.model.specs.declared.ShowAnswer.the-variants as show-answer
 use Rattle.model.specs.Pattern.{Pattern, rowIn, columnIn, patternOf, lines, rowLine, columnLine, on, lineCount, nonempty, lineTotal}
-use Rattle.model.specs.Split.{Split, holds, isCut, partsOn, volume, load, ceilingHalf, capFromPercent}
+use Rattle.model.specs.Split.{Split, holds, isCut, partsOn, volume, load, ceilingHalf, capHundredths, capFromPercent, restFromPercent}
 use Rattle.model.specs.Marking.{Marking, precedes, place, markAt, marking, takes, taken, valid, touched, conditionFor, condition}
 use Rattle.model.specs.Bound.{saysLeaning, leans, L1, L2, L3, L4, untaken, atStake, untakenOn, falling, leaningCounts, strikes, struck, conflict, mostChosen, bound}
 use Rattle.model.specs.Walk.{rulesOf, fresh, freshOf, givesPart, oneAllowed, afterZero, advance, cuts, isEmpty, tried, improved, stands, outcome, tryOnce, step, walk, walked, putLater, beginningsLater, openMarkings, leastBound, floor, filled, shownSplit}
@@ -108,7 +108,7 @@ cornerMarking l = getD (3 ∷ 1 ∷ 0 ∷ 3 ∷ []) l 3
 
 -- to unfold this is to unfold every definition that a sample computes with
 computing : Type 0
-unfolding _and_ _or_ pick bit sum any rowIn columnIn patternOf lines rowLine columnLine on lineCount nonempty lineTotal holds isCut partsOn volume load ceilingHalf capFromPercent precedes place markAt marking takes taken valid touched conditionFor condition saysLeaning leans L1 L2 L3 L4 untaken atStake untakenOn falling leaningCounts strikes struck conflict mostChosen bound rulesOf fresh givesPart oneAllowed afterZero advance cuts isEmpty tried improved stands outcome tryOnce step walk putLater beginningsLater openMarkings leastBound floor filled shownSplit refusalCode given noneYet refusal replyAfter verdictReply replyCode verdictCode refuse _then_ stack marksIn bestIn recordOf arrayOf trailOf isFound bestOr searchOf areMarks startsWithZero beginningsValid trailFine bestFine stateFine outside sizesVerdict rises entryVerdict eachVerdict listVerdict openVerdict runVerdict showVerdict capVerdict capAfter capCall freshOf noRecord openedAfter openCall ended ranRecord ranAfter runCall shownFrom shown partBytes shownParts shownAfter partsAfter showCall showParts completeNumber capReply runReply showReply withPart leastAmong leastVolume walked standsAt showsParts
+unfolding _and_ _or_ pick bit sum any rowIn columnIn patternOf lines rowLine columnLine on lineCount nonempty lineTotal holds isCut partsOn volume load ceilingHalf capHundredths capFromPercent restFromPercent precedes place markAt marking takes taken valid touched conditionFor condition saysLeaning leans L1 L2 L3 L4 untaken atStake untakenOn falling leaningCounts strikes struck conflict mostChosen bound rulesOf fresh givesPart oneAllowed afterZero advance cuts isEmpty tried improved stands outcome tryOnce step walk putLater beginningsLater openMarkings leastBound floor filled shownSplit refusalCode given noneYet refusal replyAfter verdictReply replyCode verdictCode refuse _then_ stack marksIn bestIn recordOf arrayOf trailOf isFound bestOr searchOf areMarks startsWithZero beginningsValid trailFine bestFine stateFine outside sizesVerdict rises entryVerdict eachVerdict listVerdict openVerdict runVerdict showVerdict capVerdict capAfter capCall freshOf noRecord openedAfter openCall ended ranRecord ranAfter runCall shownFrom shown partBytes shownParts shownAfter partsAfter showCall showParts completeNumber capReply runReply showReply withPart leastAmong leastVolume walked standsAt showsParts
 computing = Unit
 
 -- the samples marked P
@@ -242,13 +242,16 @@ pub record CallSamples : Type 0 where
   pub out-of-order : listVerdict 2 2 2 (1 ∷ 1 ∷ 0 ∷ 0 ∷ []) ≡ Refused Order 1
   pub repeated : listVerdict 2 2 2 (1 ∷ 1 ∷ 1 ∷ 1 ∷ []) ≡ Refused Order 1
   pub cap-refused : openVerdict 2 2 2 diagonalList 2001 ≡ Refused Cap 0
-  pub percent-taken : capCall 233 3 ≡ cap-answer.Capped 120
+  pub percent-taken : capCall 233 3 ≡ cap-answer.Capped 120 51
+  pub percent-even : capCall 156 3 ≡ cap-answer.Capped 80 34
+  pub no-rest : capCall 4 0 ≡ cap-answer.Capped 2 0
+  pub most-rest : capCall 1 99 ≡ cap-answer.Capped 1 99
   pub percent-refused : capCall 233 101 ≡ cap-answer.Refused Cap 0
   pub percent-too-big : capCall 2001 101 ≡ cap-answer.Refused TooBig 0
   -- what calls reply in numbers
   pub begun-reply : showReply (showCall (begun .search) 2 2 2 diagonalList (7 ∷ 7 ∷ [])) ≡ record { number = 255; place = 0; values = 0 ∷ [] }
   pub finished-reply : runReply (finished .answer) ≡ record { number = 0; place = 0; values = 1 ∷ [] }
-  pub percent-reply : capReply (capCall 233 3) ≡ record { number = 0; place = 0; values = 120 ∷ [] }
+  pub percent-reply : capReply (capCall 233 3) ≡ record { number = 0; place = 0; values = 120 ∷ 51 ∷ [] }
   pub order-reply : verdictReply (listVerdict 2 2 2 (1 ∷ 1 ∷ 0 ∷ 0 ∷ [])) ≡ record { number = 10; place = 1; values = [] }
   pub order-code : verdictCode (listVerdict 2 2 2 (1 ∷ 1 ∷ 0 ∷ 0 ∷ [])) ≡ 266
 
@@ -278,6 +281,9 @@ callSamples =
       repeated = refl;
       cap-refused = refl;
       percent-taken = refl;
+      percent-even = refl;
+      no-rest = refl;
+      most-rest = refl;
       percent-refused = refl;
       percent-too-big = refl;
       begun-reply = refl;

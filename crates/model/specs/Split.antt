@@ -1,7 +1,8 @@
--- Document 01, 'Pattern, split, cap', with the cap of document 02's request 2: a split, its load and volume, and meeting a cap.
+-- Document 01, 'Pattern, split, cap', with the cap and rest of document 02's requests 2 and 4: a split, its load and volume, and meeting a cap.
 -- Assumes nothing.
 use mathlib.Core.Bool.{Bool, true, false}
-use Prim.Native.Nat.{ℕ, _+_, _-_, _*_, _/_, _≤_}
+use mathlib.Core.Path.{_≡_}
+use Prim.Native.Nat.{ℕ, _+_, _-_, _*_, _/_, _%_, _≤_, _<_}
 use Rattle.counting.specs.Tests.{_and_, pick, bit}
 use Rattle.counting.specs.Sums.{sum, count, any}
 use Rattle.model.specs.declared.Part.{Part}
@@ -62,6 +63,19 @@ pub record Meets (P : Pattern) (cap : ℕ) (σ : Split) : Type 0 where
 unfoldable pub ceilingHalf : ℕ → ℕ
 ceilingHalf x = (x + 1) / 2
 
--- cap from a percentage, as published: the whole part of (100 + e) × ceiling(N / 2) / 100
+-- the cap that a percentage allows, in hundredths: (100 + e) × ceiling(N / 2)
+unfoldable pub capHundredths : ℕ → ℕ → ℕ
+capHundredths nonzeros percent = (100 + percent) * ceilingHalf nonzeros
+
+-- cap from a percentage, as published: the quotient by 100
 unfoldable pub capFromPercent : ℕ → ℕ → ℕ
-capFromPercent nonzeros percent = (100 + percent) * ceilingHalf nonzeros / 100
+capFromPercent nonzeros percent = capHundredths nonzeros percent / 100
+
+-- rest: the remainder, which was cut off
+unfoldable pub restFromPercent : ℕ → ℕ → ℕ
+restFromPercent nonzeros percent = capHundredths nonzeros percent % 100
+
+-- (100 + e) × ceiling(N / 2) = 100 × cap + rest, rest 0 to 99
+pub record CutOff (nonzeros percent cap rest : ℕ) : Type 0 where
+  pub whole : (100 + percent) * ceilingHalf nonzeros ≡ 100 * cap + rest
+  pub rest-below : rest < 100

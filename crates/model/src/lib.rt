@@ -62,9 +62,9 @@ pub struct Search {
     pub trail: Trail,
 }
 
-// The cap from a percentage, or a refusal.
+// The cap from a percentage and the rest that was cut off, or a refusal.
 pub enum CapAnswer {
-    Capped(u64),
+    Capped { cap: u64, rest: u64 },
     Refused(Word, u64),
 }
 

@@ -1,10 +1,10 @@
-// The cap from a percentage.
+// The cap from a percentage and the rest that was cut off.
 use model::CapAnswer;
 use model::Word;
 ghost use mathlib.Core.Path.{_≡_};
 ghost use Rattle.model.specs.Calls.{capCall, capReply, capReplies};
 
-// The cap from e: 4 for N, then 11, then the whole part of (100 + e) × ceiling(N / 2) / 100.
+// The cap from e: 4 for N, then 11, then quotient and remainder of (100 + e) × ceiling(N / 2) by 100.
 pub fn cap_from_percent(nonzeros: u64, percent: u64) -> CapAnswer
     ensures answer { λ r. ⌜ r ≡ capCall nonzeros percent ⌝ }
     ensures reply { λ r. ⌜ capReply r ≡ capReplies nonzeros percent ⌝ }
@@ -15,5 +15,9 @@ pub fn cap_from_percent(nonzeros: u64, percent: u64) -> CapAnswer
     if 100 < percent {
         return CapAnswer::Refused(Word::Cap, 0);
     }
-    CapAnswer::Capped((100 + percent) * ((nonzeros + 1) / 2) / 100)
+    let hundredths = (100 + percent) * ((nonzeros + 1) / 2);
+    CapAnswer::Capped {
+        cap: hundredths / 100,
+        rest: hundredths % 100,
+    }
 }

@@ -13,6 +13,7 @@ use Rattle.model.specs.declared.Part.the-variants.{Zero, One}
 use Rattle.model.specs.declared.Word.the-variants.{BadPart, ShortBuffer, Budget, State}
 use Rattle.model.specs.declared.Verdict.{Verdict}
 use Rattle.model.specs.declared.Verdict.the-variants.{Accepted, Refused}
+use Rattle.model.specs.declared.Search.{Search}
 use Rattle.model.specs.declared.RunAnswer.{RunAnswer}
 use Rattle.model.specs.declared.RunAnswer.the-variants as run-answer
 use Rattle.model.specs.declared.Ran.{Ran}
@@ -32,6 +33,7 @@ use Rattle.pattern.specs.Measures.{partVerdict, partsVerdict}
 use Rattle.search.specs.Running.{budgetBy}
 use Rattle.search.specs.History.{acceptedBudget, Handed, handedSlice, History, opened, ran, showed}
 use Rattle.search.specs.Demand.{Demand, ShowAnswered}
+use Rattle.search.proofs.Runs.{search-cap}
 use Rattle.search.proofs.Budgets.{budget-over, budget-taken}
 use Rattle.search.proofs.Points.{walked-cap}
 use Rattle.search.proofs.Demand3.{ended-budget, opened-none, demand-3}
@@ -92,6 +94,13 @@ module _ (m n nonzeros : ℕ) (list : List ℕ) (cap budget : ℕ) (opens : open
   run-is v e =
       at-start .run-is handed budget
       ∙ ap (λ (v : Verdict). ranAfter v (openCall m n nonzeros list cap .search) P budget) (runs ∙ sym e)
+
+  -- whatever the run answers, its search has the opening's cap
+  pub run-cap : Run .search .cap ≡ cap
+  run-cap =
+      ap (λ (s : Search). s .cap) (demand-3 m n nonzeros list cap .throughout (ran start handed budget Run refl) .2 .whole)
+      ∙ search-cap _
+      ∙ walked-cap m n nonzeros list cap opens _
 
   -- a budget over its range is refused 13
   pub run-refused : budgetLimit < budget → Run .answer ≡ run-answer.Refused Budget 0

@@ -8,10 +8,13 @@ use testing::saying::say;
 use testing::saying::say_number;
 use testing::saying::say_refused;
 
-// A cap, or a refusal.
+// A cap and its rest, or a refusal.
 fn say_cap(answer: CapAnswer) {
     match answer {
-        CapAnswer::Capped(cap) => say_number(b" ", cap),
+        CapAnswer::Capped { cap, rest } => {
+            say_number(b" ", cap);
+            say_number(b" rest ", rest);
+        }
         CapAnswer::Refused(word, place) => say_refused(word, place),
     }
 }

@@ -66,6 +66,7 @@ pub(crate) fn sample_figures() -> Figures {
     Figures {
         volume: 0,
         cap: 1,
+        rest: 0,
         tries: 11,
         floor: 0,
         complete: 1,
@@ -87,9 +88,9 @@ pub(crate) fn write_case(cases: &[u8], at: usize) -> usize {
     let mut out = [9u8; 200];
     write_start(split, room.value as usize, &mut out);
     let kept = is_kept(&out);
-    let kept_past = is_kept(&out[110..200]);
+    let kept_past = is_kept(&out[117..200]);
     say_which(kept, b", output kept", b", output written");
-    say_which(kept_past, b", kept from 110 on", b", changed from 110 on");
+    say_which(kept_past, b", kept from 117 on", b", changed from 117 on");
     say(b"\n");
     room.next
 }
@@ -117,12 +118,14 @@ pub(crate) fn back_case(cases: &[u8], at: usize) -> usize {
     let split = split_at(cases, at);
     let volume = number_at(cases, split.next);
     let cap = number_at(cases, volume.next);
-    let tries = number_at(cases, cap.next);
+    let rest = number_at(cases, cap.next);
+    let tries = number_at(cases, rest.next);
     let floor = number_at(cases, tries.next);
     let complete = number_at(cases, floor.next);
     let figures = Figures {
         volume: volume.value,
         cap: cap.value,
+        rest: rest.value,
         tries: tries.value,
         floor: floor.value,
         complete: complete.value,

@@ -5,7 +5,7 @@ use mathlib.Core.Path.{_≡_, ap}
 use Prim.Native.Nat.{ℕ}
 use Rattle.model.specs.declared.Word.{Word}
 use Rattle.model.specs.Refusal.{refusalNumber}
-use Rattle.writing.specs.Written.{Puts, numberText, figureText, #tries, #floor}
+use Rattle.writing.specs.Written.{Puts, numberText, figureText, figuresText}
 use Rattle.writing.specs.Lines.{#refused, #at, #none, refusedText, noneText}
 use Rattle.writing.proofs.Puttings.{puts-then, puts-as}
 
@@ -17,8 +17,7 @@ unfolding refusedText
 puts-refused word place e a b c = puts-then (puts-as (ap (figureText #refused) e) a) (puts-then b c)
 
 pub puts-none-yet :
-    {page p1 p2 p3 p4 : List ℕ} {at r1 r2 r3 r4 : ℕ} (cap tries floor : ℕ) →
-    Puts page at (figureText #none cap) p1 r1 → Puts p1 r1 (figureText #tries tries) p2 r2 →
-    Puts p2 r2 #floor p3 r3 → Puts p3 r3 (numberText floor 10) p4 r4 → Puts page at (noneText cap tries floor) p4 r4
+    {page p1 p2 : List ℕ} {at r1 r2 : ℕ} (cap rest tries floor : ℕ) → Puts page at #none p1 r1 →
+    Puts p1 r1 (figuresText cap rest tries floor 10) p2 r2 → Puts page at (noneText cap rest tries floor) p2 r2
 unfolding noneText
-puts-none-yet cap tries floor a b c d = puts-then a (puts-then b (puts-then c d))
+puts-none-yet cap rest tries floor a b = puts-then a b

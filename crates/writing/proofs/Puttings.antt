@@ -12,7 +12,7 @@ use borrow.Author.Tests.{eq-eqb, ne-eqb}
 use Rattle.counting.proofs.Joined.{by-test, pick-true, pick-false}
 use Rattle.model.specs.Pattern.{rowIn, columnIn}
 use Rattle.writing.specs.declared.Figures.{Figures}
-use Rattle.writing.specs.Written.{Puts, decimals, numberText, figureText, #volume, #cap, #tries, #floor, #stopped, #complete, #first-line, endingText, commentText, sizesText, entryText, entriesText, headText, bodyText, textOf}
+use Rattle.writing.specs.Written.{Puts, decimals, numberText, figureText, #volume, #cap, #rest, #tries, #floor, figuresText, #stopped, #complete, #first-line, endingText, commentText, sizesText, entryText, entriesText, headText, bodyText, textOf}
 use Rattle.writing.proofs.Decimals.{decimals-short}
 
 -- a text put after another
@@ -57,7 +57,7 @@ pub number-short : (n b : ℕ) → length (numberText n b) ≤ 21
 unfolding numberText
 number-short n b = omega (arith, length-append (decimals 20 n) (b ∷ []), decimals-short 20 n)
 
-pub sizes-short : (m n nonzeros : ℕ) → length (sizesText m n nonzeros) ≤ 63
+sizes-short : (m n nonzeros : ℕ) → length (sizesText m n nonzeros) ≤ 63
 unfolding sizesText
 sizes-short m n nonzeros =
     omega
@@ -115,9 +115,33 @@ pub puts-figure :
 unfolding figureText
 puts-figure label n p q = puts-then p q
 
-pub figure-room : (label : List ℕ) (n : ℕ) {page new : List ℕ} {at next : ℕ} → Puts page at (figureText label n) new next → next ≤ at + (length label + 21)
+pub figure-short : (label : List ℕ) (n : ℕ) → length (figureText label n) ≤ length label + 21
 unfolding figureText
-figure-room label n {page} {new} {at} {next} p = omega (arith, p .after, length-append label (numberText n 32), number-short n 32)
+figure-short label n = omega (arith, length-append label (numberText n 32), number-short n 32)
+
+pub figure-room : (label : List ℕ) (n : ℕ) {page new : List ℕ} {at next : ℕ} → Puts page at (figureText label n) new next → next ≤ at + (length label + 21)
+figure-room label n {page} {new} {at} {next} p = omega (arith, p .after, figure-short label n)
+
+-- what the comment and the line "none yet" both say
+pub puts-figures :
+    {page p1 p2 p3 p4 p5 : List ℕ} {at r1 r2 r3 r4 r5 : ℕ} (cap rest tries floor b : ℕ) →
+    Puts page at (figureText #cap cap) p1 r1 → Puts p1 r1 (figureText #rest rest) p2 r2 → Puts p2 r2 (figureText #tries tries) p3 r3 →
+    Puts p3 r3 #floor p4 r4 → Puts p4 r4 (numberText floor b) p5 r5 → Puts page at (figuresText cap rest tries floor b) p5 r5
+unfolding figuresText
+puts-figures cap rest tries floor b p q r s t = puts-then p (puts-then q (puts-then r (puts-then s t)))
+
+pub figures-short : (cap rest tries floor b : ℕ) → length (figuresText cap rest tries floor b) ≤ 105
+unfolding figuresText
+figures-short cap rest tries floor b =
+    let last = #floor ++ numberText floor b in
+    let third = figureText #tries tries ++ last in
+    let second = figureText #rest rest ++ third in
+    omega
+    (arith, length-append (figureText #cap cap) second, length-append (figureText #rest rest) third, length-append (figureText #tries tries) last, length-append #floor (numberText floor b), figure-short #cap cap, figure-short #rest rest, figure-short #tries tries, number-short floor b)
+
+pub figures-room :
+    (cap rest tries floor b : ℕ) {page new : List ℕ} {at next : ℕ} → Puts page at (figuresText cap rest tries floor b) new next → next ≤ at + 105
+figures-room cap rest tries floor b {page} {new} {at} {next} p = omega (arith, p .after, figures-short cap rest tries floor b)
 
 pub ending-stopped : (complete : ℕ) → complete ≡ 0 → #stopped ≡ endingText complete
 unfolding endingText
@@ -136,22 +160,19 @@ ending-short complete =
     (λ e. omega (arith, ap length (pick-false #stopped #complete e)))
 
 pub puts-comment :
-    {page p1 p2 p3 p4 p5 : List ℕ} {at r1 r2 r3 r4 r5 : ℕ} (f : Figures) →
-    Puts page at (figureText #volume (f .volume)) p1 r1 → Puts p1 r1 (figureText #cap (f .cap)) p2 r2 →
-    Puts p2 r2 (figureText #tries (f .tries)) p3 r3 → Puts p3 r3 (figureText #floor (f .floor)) p4 r4 →
-    Puts p4 r4 (endingText (f .complete)) p5 r5 → Puts page at (commentText f) p5 r5
+    {page p1 p2 p3 : List ℕ} {at r1 r2 r3 : ℕ} (f : Figures) → Puts page at (figureText #volume (f .volume)) p1 r1 →
+    Puts p1 r1 (figuresText (f .cap) (f .rest) (f .tries) (f .floor) 32) p2 r2 → Puts p2 r2 (endingText (f .complete)) p3 r3 →
+    Puts page at (commentText f) p3 r3
 unfolding commentText
-puts-comment f a b c d e = puts-then a (puts-then b (puts-then c (puts-then d e)))
+puts-comment f p q r = puts-then p (puts-then q r)
 
-pub comment-short : (f : Figures) → length (commentText f) ≤ 118
-unfolding commentText figureText
+pub comment-short : (f : Figures) → length (commentText f) ≤ 144
+unfolding commentText
 comment-short f =
     let volume = figureText #volume (f .volume) in
-    let cap = figureText #cap (f .cap) in
-    let tries = figureText #tries (f .tries) in
-    let floor = figureText #floor (f .floor) in
+    let figures = figuresText (f .cap) (f .rest) (f .tries) (f .floor) 32 in
     omega
-    (arith, length-append volume (cap ++ (tries ++ (floor ++ endingText (f .complete)))), length-append cap (tries ++ (floor ++ endingText (f .complete))), length-append tries (floor ++ endingText (f .complete)), length-append floor (endingText (f .complete)), length-append #volume (numberText (f .volume) 32), length-append #cap (numberText (f .cap) 32), length-append #tries (numberText (f .tries) 32), length-append #floor (numberText (f .floor) 32), number-short (f .volume) 32, number-short (f .cap) 32, number-short (f .tries) 32, number-short (f .floor) 32, ending-short (f .complete))
+    (arith, length-append volume (figures ++ endingText (f .complete)), length-append figures (endingText (f .complete)), figure-short #volume (f .volume), figures-short (f .cap) (f .rest) (f .tries) (f .floor) 32, ending-short (f .complete))
 
 pub puts-sizes :
     {page p1 p2 p3 : List ℕ} {at r1 r2 r3 : ℕ} (m n nonzeros : ℕ) →
@@ -192,11 +213,11 @@ pub puts-head :
 unfolding headText
 puts-head f p q = puts-then p q
 
-pub head-short : (f : Figures) → length (headText f) ≤ 168
+pub head-short : (f : Figures) → length (headText f) ≤ 193
 unfolding headText
 head-short f = omega (arith, length-append #first-line (commentText f), comment-short f)
 
-pub head-room : (f : Figures) {page new : List ℕ} {at next : ℕ} → Puts page at (headText f) new next → next ≤ at + 168
+pub head-room : (f : Figures) {page new : List ℕ} {at next : ℕ} → Puts page at (headText f) new next → next ≤ at + 193
 head-room f {page} {new} {at} {next} p = omega (arith, p .after, head-short f)
 
 pub puts-body :

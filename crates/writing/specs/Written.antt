@@ -1,4 +1,4 @@
--- Document 01, 'Texts': the text that the writer gives.
+-- Document 01, 'Texts', with the rest of document 02's request 4: the text that the writer gives.
 -- Assumes nothing.
 use mathlib.Core.List.{List, [], _∷_, _++_}
 use mathlib.Core.Path.{_≡_}
@@ -28,18 +28,27 @@ numberText n b = decimals 20 n ++ (b ∷ [])
 unfoldable pub figureText : List ℕ → ℕ → List ℕ
 figureText label n = label ++ numberText n 32
 
--- "% volume ", "cap ", "tries ", "floor "
+-- "% volume ", "cap ", "rest ", "tries ", "floor "
 abbrev pub #volume : List ℕ
 #volume = 37 ∷ 32 ∷ 118 ∷ 111 ∷ 108 ∷ 117 ∷ 109 ∷ 101 ∷ 32 ∷ []
 
 abbrev pub #cap : List ℕ
 #cap = 99 ∷ 97 ∷ 112 ∷ 32 ∷ []
 
+abbrev pub #rest : List ℕ
+#rest = 114 ∷ 101 ∷ 115 ∷ 116 ∷ 32 ∷ []
+
 abbrev pub #tries : List ℕ
 #tries = 116 ∷ 114 ∷ 105 ∷ 101 ∷ 115 ∷ 32 ∷ []
 
 abbrev pub #floor : List ℕ
 #floor = 102 ∷ 108 ∷ 111 ∷ 111 ∷ 114 ∷ 32 ∷ []
+
+-- cap C rest R tries T floor F, and the byte after it
+unfoldable pub figuresText : ℕ → ℕ → ℕ → ℕ → ℕ → List ℕ
+figuresText cap rest tries floor b =
+    figureText #cap cap
+    ++ (figureText #rest rest ++ (figureText #tries tries ++ (#floor ++ numberText floor b)))
 
 -- "stopped" LF and "complete" LF
 abbrev pub #stopped : List ℕ
@@ -52,12 +61,11 @@ abbrev pub #complete : List ℕ
 unfoldable pub endingText : ℕ → List ℕ
 endingText complete = pick (eqb complete 0) #stopped #complete
 
--- the comment: % volume V cap C tries T floor F complete
+-- the comment: % volume V cap C rest R tries T floor F complete
 unfoldable pub commentText : Figures → List ℕ
 commentText f =
     figureText #volume (f .volume)
-    ++ (figureText #cap (f .cap)
-    ++ (figureText #tries (f .tries) ++ (figureText #floor (f .floor) ++ endingText (f .complete))))
+    ++ (figuresText (f .cap) (f .rest) (f .tries) (f .floor) 32 ++ endingText (f .complete))
 
 -- three numbers, single spaces, LF
 unfoldable pub sizesText : ℕ → ℕ → ℕ → List ℕ

@@ -15,7 +15,7 @@ use pattern::reading::wide16;
 ghost use mathlib.Core.Path.{_≡_};
 ghost use Prim.Native.Nat.{_<_};
 ghost use lib.ListN.{length};
-ghost use Rattle.writing.specs.Written.{Puts, numberText, figureText, entryText, entriesText, endingText, commentText, sizesText, headText, bodyText, textOf};
+ghost use Rattle.writing.specs.Written.{Puts, numberText, figureText, figuresText, entryText, entriesText, endingText, commentText, sizesText, headText, bodyText, textOf};
 ghost use Rattle.writing.specs.Writing.{lengthAnswer, textOut, writeCall, writeOut, writeReply, writeReplies};
 
 mod digits;
@@ -44,13 +44,33 @@ fn put_bytes(page: &mut [u8], at: usize, bytes: &[u8]) -> usize
     at + i
 }
 
-// A figure of the comment: its label, its number, a space.
+// A figure: its label, its number, a space.
 fn put_figure(page: &mut [u8], at: usize, label: &[u8], n: u64) -> usize
     requires { ⌜ (at < 2147483648) × (length (now label) < 100) ⌝ }
     ensures { λ r. ⌜ Puts (now (page .entry)) at (figureText (now (label .entry)) n) (now (page .exit)) r ⌝ }
 {
     let next = put_bytes(page, at, label);
     put_number(page, next, n, b' ')
+}
+
+// "cap C rest R tries T floor F" and the byte after it, as the comment and the line "none yet" say it.
+fn put_figures(
+    page: &mut [u8],
+    at: usize,
+    cap: u64,
+    rest: u64,
+    tries: u64,
+    floor: u64,
+    byte: u8,
+) -> usize
+    requires { ⌜ at < 1073741824 ⌝ }
+    ensures { λ r. ⌜ Puts (now (page .entry)) at (figuresText cap rest tries floor byte) (now (page .exit)) r ⌝ }
+{
+    let a = put_figure(page, at, b"cap ", cap);
+    let b = put_figure(page, a, b"rest ", rest);
+    let c = put_figure(page, b, b"tries ", tries);
+    let d = put_bytes(page, c, b"floor ");
+    put_number(page, d, floor, byte)
 }
 
 // The end of the comment: "stopped" or "complete".
@@ -67,14 +87,20 @@ fn put_ending(page: &mut [u8], at: usize, complete: u64) -> usize
 
 // The comment.
 fn put_comment(page: &mut [u8], at: usize, figures: Figures) -> usize
-    requires { ⌜ at < 1073741824 ⌝ }
+    requires { ⌜ at < 536870912 ⌝ }
     ensures { λ r. ⌜ Puts (now (page .entry)) at (commentText figures) (now (page .exit)) r ⌝ }
 {
     let a = put_figure(page, at, b"% volume ", figures.volume);
-    let b = put_figure(page, a, b"cap ", figures.cap);
-    let c = put_figure(page, b, b"tries ", figures.tries);
-    let d = put_figure(page, c, b"floor ", figures.floor);
-    put_ending(page, d, figures.complete)
+    let b = put_figures(
+        page,
+        a,
+        figures.cap,
+        figures.rest,
+        figures.tries,
+        figures.floor,
+        b' ',
+    );
+    put_ending(page, b, figures.complete)
 }
 
 // The size line.

@@ -1,4 +1,5 @@
--- The cap from a percentage: it is at least ceiling(N / 2) and at most 2,000, so an opening with it is refused for its list alone, never with 11 or 12.
+-- The cap from a percentage and its rest: they are the one pair with (100 + e) × ceiling(N / 2) = 100 × cap + rest and rest under 100. The
+-- cap is at least ceiling(N / 2) and at most 2,000, so an opening with it is refused for its list alone, never with 11 or 12.
 -- Assumes nothing.
 use mathlib.Core.List.{List}
 use mathlib.Core.Path.{_≡_, refl, sym, _∙_, ap}
@@ -15,7 +16,7 @@ use Rattle.model.specs.declared.Verdict.the-variants.{Accepted, Refused}
 use Rattle.model.specs.declared.CapAnswer.the-variants as cap-answer
 use Rattle.model.specs.Limits.{nonzeroLimit, capLimit, percentLimit}
 use Rattle.model.specs.Refusal.{refusalNumber, refuse}
-use Rattle.model.specs.Split.{ceilingHalf, capFromPercent}
+use Rattle.model.specs.Split.{ceilingHalf, capHundredths, capFromPercent, restFromPercent, CutOff}
 use Rattle.model.specs.Calls.{listVerdict, openVerdict, capVerdict, capAfter, capCall, openCall}
 use Rattle.model.proofs.Theorems.Checks.{refuse-so, refuse-no, refuse-not, then-accepted, then-refused, then-first, then-second, then-rest}
 use Rattle.model.proofs.Theorems.Spared.{cap-words, list-spares}
@@ -25,13 +26,24 @@ pub ceiling-half : (x : ℕ) → (x ≤ 2 * ceilingHalf x) × (2 * ceilingHalf x
 unfolding ceilingHalf
 ceiling-half x = (omega arith, omega arith)
 
+-- a cap from a percentage and its rest are the quotient and the remainder that the request asks for, and no others are
+pub cut-off : (nonzeros percent : ℕ) → CutOff nonzeros percent (capFromPercent nonzeros percent) (restFromPercent nonzeros percent)
+unfolding capFromPercent restFromPercent capHundredths
+cut-off nonzeros percent = record { whole = omega arith; rest-below = omega arith }
+
+pub cut-off-once :
+    {nonzeros percent cap rest : ℕ} → CutOff nonzeros percent cap rest →
+    (cap ≡ capFromPercent nonzeros percent) × (rest ≡ restFromPercent nonzeros percent)
+unfolding capFromPercent restFromPercent capHundredths
+cut-off-once c = (omega (arith, c .whole, c .rest-below), omega (arith, c .whole, c .rest-below))
+
 -- a cap from a percentage is at least ceiling(N / 2)
 pub cap-from : (nonzeros percent : ℕ) → ceilingHalf nonzeros ≤ capFromPercent nonzeros percent
-unfolding capFromPercent
 cap-from nonzeros percent =
     let whole : 100 ≤ 100 + percent = omega arith in
     let same : ceilingHalf nonzeros ≤ ceilingHalf nonzeros = omega arith in
-    omega (arith, mul-le-mul whole same)
+    let cut = cut-off nonzeros percent in
+    omega (arith, mul-le-mul whole same, cut .whole, cut .rest-below)
 
 -- so some split meets it
 pub cap-enough : (nonzeros percent : ℕ) → nonzeros ≤ 2 * capFromPercent nonzeros percent
@@ -39,11 +51,10 @@ cap-enough nonzeros percent = omega (arith, cap-from nonzeros percent, ceiling-h
 
 -- for N and e in range it is at most 2,000
 pub cap-to : (nonzeros percent : ℕ) → nonzeros ≤ nonzeroLimit → percent ≤ percentLimit → capFromPercent nonzeros percent ≤ capLimit
-unfolding capFromPercent
 cap-to nonzeros percent few low =
     let most : 100 + percent ≤ 200 = omega arith in
     let half : ceilingHalf nonzeros ≤ 1000 = omega (arith, ceiling-half nonzeros .1) in
-    omega (arith, mul-le-mul most half)
+    omega (arith, mul-le-mul most half, cut-off nonzeros percent .whole)
 
 -- so an opening with it makes no other checks than those of its list
 pub percent-opens :
@@ -59,13 +70,13 @@ pub cap-too-big : (nonzeros percent : ℕ) → nonzeroLimit < nonzeros → capCa
 unfolding capCall capVerdict capAfter
 cap-too-big nonzeros percent many = rw (then-refused _ (refuse-so TooBig 0 (lt-ltb nonzeroLimit nonzeros many)))
 
--- for N in range the cap, or 11 for e above its range
+-- for N in range the cap and the rest, or 11 for e above its range
 module _ (nonzeros percent : ℕ) (few : nonzeros ≤ nonzeroLimit) where
   percent-decides : capVerdict nonzeros percent ≡ refuse (ltb percentLimit percent) Cap 0
   unfolding capVerdict
   percent-decides = then-accepted _ (refuse-no TooBig 0 (le-ltb nonzeroLimit nonzeros few))
 
-  pub cap-given : percent ≤ percentLimit → capCall nonzeros percent ≡ cap-answer.Capped (capFromPercent nonzeros percent)
+  pub cap-given : percent ≤ percentLimit → capCall nonzeros percent ≡ cap-answer.Capped (capFromPercent nonzeros percent) (restFromPercent nonzeros percent)
   unfolding capCall capAfter
   cap-given low = rw (percent-decides, refuse-no Cap 0 (le-ltb percentLimit percent low))
 
@@ -73,43 +84,50 @@ module _ (nonzeros percent : ℕ) (few : nonzeros ≤ nonzeroLimit) where
   unfolding capCall capAfter
   cap-refused high = rw (percent-decides, refuse-so Cap 0 (lt-ltb percentLimit percent high))
 
--- a cap that was answered: N and e are in range, and it is their cap
-pub record CapFine (nonzeros percent cap : ℕ) : Type 0 where
+-- N and e in range, and a cap and rest of them
+pub record CapFine (nonzeros percent cap rest : ℕ) : Type 0 where
   pub size-to : nonzeros ≤ nonzeroLimit
   pub percent-to : percent ≤ percentLimit
-  pub cap-is : cap ≡ capFromPercent nonzeros percent
+  pub cut : CutOff nonzeros percent cap rest
 
 capped-verdict :
-    (v : Verdict) (nonzeros percent cap : ℕ) → capAfter v nonzeros percent ≡ cap-answer.Capped cap →
-    (v ≡ Accepted) × (cap ≡ capFromPercent nonzeros percent)
+    (v : Verdict) (nonzeros percent cap rest : ℕ) → capAfter v nonzeros percent ≡ cap-answer.Capped cap rest →
+    (v ≡ Accepted) × (cap ≡ capFromPercent nonzeros percent) × (rest ≡ restFromPercent nonzeros percent)
 unfolding capAfter
-capped-verdict Accepted nonzeros percent cap e = (refl, cc)
-capped-verdict (Refused word place) nonzeros percent cap e = never (cc)
+capped-verdict Accepted nonzeros percent cap rest e = (refl, cc, cc)
+capped-verdict (Refused word place) nonzeros percent cap rest e = never (cc)
 
-module _ (nonzeros percent cap : ℕ) (e : capCall nonzeros percent ≡ cap-answer.Capped cap) where
-  pub cap-accepted : CapFine nonzeros percent cap
-  unfolding capCall capVerdict
-  cap-accepted =
-      let capped = capped-verdict _ nonzeros percent cap e in
-      record {
-        size-to = ltb-false nonzeroLimit nonzeros (refuse-not _ TooBig 0 (then-first _ _ (capped .0)));
-        percent-to = ltb-false percentLimit percent (refuse-not _ Cap 0 (then-second _ _ (capped .0)));
-        cap-is = capped .1;
-      }
+module _ (nonzeros percent cap rest : ℕ) where
+  -- a cap and a rest are answered exactly where they are those of N and e in range
+  pub cap-answers : CapFine nonzeros percent cap rest → capCall nonzeros percent ≡ cap-answer.Capped cap rest
+  cap-answers fine =
+      let only = cut-off-once (fine .cut) in
+      cap-given nonzeros percent (fine .size-to) (fine .percent-to) ∙ rw (sym (only .0), sym (only .1)) refl
 
-  -- an opening with a cap that was answered
-  pub capped-opens : (m n : ℕ) (list : List ℕ) → openVerdict m n nonzeros list cap ≡ listVerdict m n nonzeros list
-  capped-opens m n list =
-      ap (openVerdict m n nonzeros list) (cap-accepted .cap-is)
-      ∙ percent-opens m n nonzeros list percent (cap-accepted .size-to) (cap-accepted .percent-to)
+  module _ (e : capCall nonzeros percent ≡ cap-answer.Capped cap rest) where
+    pub cap-accepted : CapFine nonzeros percent cap rest
+    unfolding capCall capVerdict
+    cap-accepted =
+        let capped = capped-verdict _ nonzeros percent cap rest e in
+        record {
+          size-to = ltb-false nonzeroLimit nonzeros (refuse-not _ TooBig 0 (then-first _ _ (capped .0)));
+          percent-to = ltb-false percentLimit percent (refuse-not _ Cap 0 (then-second _ _ (capped .0)));
+          cut = rw (capped .1, capped .2) (cut-off nonzeros percent);
+        }
+
+    -- an opening with a cap that was answered
+    pub capped-opens : (m n : ℕ) (list : List ℕ) → openVerdict m n nonzeros list cap ≡ listVerdict m n nonzeros list
+    capped-opens m n list =
+        ap (openVerdict m n nonzeros list) (cut-off-once (cap-accepted .cut) .0)
+        ∙ percent-opens m n nonzeros list percent (cap-accepted .size-to) (cap-accepted .percent-to)
 
 -- a search opened with a cap from a percentage is never refused 11 or 12
 pub capped-never :
-    (m n nonzeros : ℕ) (list : List ℕ) (percent cap : ℕ) (word : Word) (place : ℕ) →
-    capCall nonzeros percent ≡ cap-answer.Capped cap → openCall m n nonzeros list cap .verdict ≡ Refused word place →
+    (m n nonzeros : ℕ) (list : List ℕ) (percent cap rest : ℕ) (word : Word) (place : ℕ) →
+    capCall nonzeros percent ≡ cap-answer.Capped cap rest → openCall m n nonzeros list cap .verdict ≡ Refused word place →
     (refusalNumber word ≡ 11 → ⊥) × (refusalNumber word ≡ 12 → ⊥)
 unfolding openCall
-capped-never m n nonzeros list percent cap word place e refused =
+capped-never m n nonzeros list percent cap rest word place e refused =
     cap-words
     (refusalNumber word)
-    (list-spares m n nonzeros list .spared word place (sym (capped-opens nonzeros percent cap e m n list) ∙ refused))
+    (list-spares m n nonzeros list .spared word place (sym (capped-opens nonzeros percent cap rest e m n list) ∙ refused))

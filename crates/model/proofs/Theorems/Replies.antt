@@ -14,15 +14,15 @@ use Rattle.model.specs.declared.Opened.{Opened}
 use Rattle.model.specs.declared.Ran.{Ran}
 use Rattle.model.specs.Refusal.{given, replyAfter, verdictReply}
 use Rattle.model.specs.Pattern.{Pattern, patternOf}
-use Rattle.model.specs.Split.{capFromPercent}
+use Rattle.model.specs.Split.{capFromPercent, restFromPercent}
 use Rattle.model.specs.Walk.{Record, rulesOf, floor}
 use Rattle.model.specs.State.{recordOf}
 use Rattle.model.specs.Calls.{runVerdict, showVerdict, capVerdict, capAfter, capCall, openCall, completeNumber, ended, ranRecord, ranAfter, runCall, shown, shownAfter, showCall, capReply, runReply, showReply, shownReply, openReplies, capReplies, runReplies, showReplies}
 
--- the cap from a percentage: the cap
+-- the cap from a percentage: the cap and the rest
 cap-by-verdict :
     (v : Verdict) (nonzeros percent : ℕ) →
-    capReply (capAfter v nonzeros percent) ≡ replyAfter v (given (capFromPercent nonzeros percent ∷ []))
+    capReply (capAfter v nonzeros percent) ≡ replyAfter v (given (capFromPercent nonzeros percent ∷ restFromPercent nonzeros percent ∷ []))
 unfolding capReply capAfter replyAfter
 cap-by-verdict Accepted nonzeros percent = refl
 cap-by-verdict (Refused word place) nonzeros percent = refl

@@ -1,6 +1,7 @@
 // The line printed where there is no split to write: a refusal, or "none yet".
 use super::put_bytes;
 use super::put_figure;
+use super::put_figures;
 use super::put_number;
 use model::Word;
 use pattern::refusals::refusal_number;
@@ -17,12 +18,10 @@ pub fn put_refused(page: &mut [u8], word: Word, place: u64) -> usize
     put_number(page, b, place, b'\n')
 }
 
-// "none yet cap C tries T floor F".
-pub fn put_none(page: &mut [u8], cap: u64, tries: u64, floor: u64) -> usize
-    ensures { λ r. ⌜ Puts (now (page .entry)) 0 (noneText cap tries floor) (now (page .exit)) r ⌝ }
+// "none yet cap C rest R tries T floor F".
+pub fn put_none(page: &mut [u8], cap: u64, rest: u64, tries: u64, floor: u64) -> usize
+    ensures { λ r. ⌜ Puts (now (page .entry)) 0 (noneText cap rest tries floor) (now (page .exit)) r ⌝ }
 {
-    let a = put_figure(page, 0, b"none yet cap ", cap);
-    let b = put_figure(page, a, b"tries ", tries);
-    let c = put_bytes(page, b, b"floor ");
-    put_number(page, c, floor, b'\n')
+    let next = put_bytes(page, 0, b"none yet ");
+    put_figures(page, next, cap, rest, tries, floor, b'\n')
 }

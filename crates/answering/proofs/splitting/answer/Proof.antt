@@ -3,7 +3,8 @@
 use native.Mathlib.Omega.{arith}
 use borrow.Author.Tests.{not-true, not-false}
 use Rattle.counting.proofs.Joined.{no-way}
-use Rattle.answering.proofs.Steps.{command-other, command-text, command-room}
+use Rattle.answering.specs.Answer.{answerText}
+use Rattle.answering.proofs.Steps.{prints-answer, prints-refusal, command-other, command-text, command-room}
 use borrow.Author.Needs.{needs}
 use Rattle.answering.proofs.splitting.answer.Statement.{statement}
 use Rattle.answering.proofs.splitting.answer.Tie as tie
@@ -18,10 +19,11 @@ same-length : tie.Need-same-length
 same-length c = search needs
 
 returns : tie.Need-returns
+unfolding answerText
 returns c =
     let command = c .before .before .before .before .before .before in
     let a = command .before .before .before .args in
-    command-other (a .input .now) (a .out .now) _ _ (command .command-of .result) (command .command-of .ensures) (not-true _ (c .before .before .before .before .if1 .taken)) (c .before .before .put-refused .ensures)
+    prints-refusal _ _ (command-other (a .input .now) (command .command-of .result) (command .command-of .ensures) (not-true _ (c .before .before .before .before .if1 .taken))) (c .before .before .put-refused .ensures)
 
 put-refused-requires-2 : tie.Need-put-refused-requires-2
 put-refused-requires-2 c κs = search needs
@@ -33,7 +35,7 @@ returns-2 : tie.Need-returns-2
 returns-2 c =
     let command = c .before .before .before .before .before .before .before in
     let a = command .before .before .before .args in
-    no-way (omega (arith, command-room (a .input .now) (a .out .now) (a .out .now) 0 (command .command-of .result) (command .command-of .ensures) (not-false _ (c .before .before .before .before .before .if1 .left)), c .before .before .before .before .if2 .taken))
+    no-way (omega (arith, command-room (a .input .now) (command .command-of .result) (command .command-of .ensures) (not-false _ (c .before .before .before .before .before .if1 .left)), c .before .before .before .before .if2 .taken))
 
 part-text-start : tie.Need-part-text-start
 part-text-start c = search needs
@@ -54,10 +56,11 @@ same-length-3 : tie.Need-same-length-3
 same-length-3 c = search needs
 
 returns-3 : tie.Need-returns-3
+unfolding answerText
 returns-3 c =
     let command = c .before .before .before .before .before .before .before .before .before .before in
     let a = command .before .before .before .args in
-    command-text (a .input .now) (a .out .now) _ _ (command .command-of .result) (command .command-of .ensures) (not-false _ (c .before .before .before .before .before .before .before .before .if1 .left)) (c .before .before .put-text .ensures)
+    prints-answer (command-text (a .input .now) (command .command-of .result) (command .command-of .ensures) (not-false _ (c .before .before .before .before .before .before .before .before .if1 .left))) (c .before .before .put-text .ensures)
 
 pub answer-spec : {M : Type 1} → statement M
 answer-spec =

@@ -9,7 +9,7 @@ complete-number-requires : tie.Need-complete-number-requires
 complete-number-requires c κs = search needs
 
 returns : tie.Need-returns
-returns c = figures-are _ _ _ _ (c .complete-number .ensures)
+returns c = figures-are _ _ _ _ _ (c .complete-number .ensures)
 
 pub figures-of-spec : {M : Type 1} → statement M
 figures-of-spec = tie.close (tie.spec complete-number-requires returns)

@@ -2,7 +2,7 @@
 -- Assumes nothing.
 use borrow.Author.Needs.{needs}
 use Rattle.pattern.proofs.Verdicts.{accepted-tag}
-use Rattle.answering.proofs.Steps.{opened-run, opened-refused}
+use Rattle.answering.proofs.Steps.{prints-answer, prints-refusal, opened-run, opened-refused}
 use Rattle.answering.proofs.splitting.put_opening.Statement.{statement}
 use Rattle.answering.proofs.splitting.put_opening.Tie as tie
 
@@ -25,13 +25,13 @@ same-length : tie.Need-same-length
 same-length c = search needs
 
 returns : tie.Need-returns
-returns c = opened-run (c .before .before .before .before .before .before .before .open .result) _ _ _ _ _ _ _ _ _ (c .before .before .before .before .before .before .before .open .ensures .0) (accepted-tag _ (c .before .before .before .before .before .match .keys1)) (c .before .before .put-run .ensures)
+returns c = prints-answer (opened-run (c .before .before .before .before .before .before .before .open .result) _ _ _ _ _ _ _ (c .before .before .before .before .before .before .before .open .ensures .0) (accepted-tag _ (c .before .before .before .before .before .match .keys1))) (c .before .before .put-run .ensures)
 
 same-length-2 : tie.Need-same-length-2
 same-length-2 c = search needs
 
 returns-2 : tie.Need-returns-2
-returns-2 c = opened-refused (c .before .before .before .before .before .before .before .before .open .result) _ _ _ _ _ _ _ _ _ (c .before .before .before .before .before .before .before .before .open .ensures .0) _ _ (c .before .before .before .before .before .verdict .given .1) (c .before .before .put-refused .ensures)
+returns-2 c = prints-refusal _ _ (opened-refused (c .before .before .before .before .before .before .before .before .open .result) _ _ _ _ _ _ _ (c .before .before .before .before .before .before .before .before .open .ensures .0) _ _ (c .before .before .before .before .before .verdict .given .1)) (c .before .before .put-refused .ensures)
 
 pub put-opening-spec : {M : Type 1} → statement M
 put-opening-spec =

@@ -2,7 +2,7 @@
 -- Assumes nothing.
 use borrow.Author.Needs.{needs}
 use mathlib.Core.Logic.{inl, inr}
-use Rattle.answering.proofs.Steps.{ran-shown, ran-refused}
+use Rattle.answering.proofs.Steps.{prints-answer, prints-refusal, ran-shown, ran-refused}
 use Rattle.answering.proofs.splitting.put_run.Statement.{statement}
 use Rattle.answering.proofs.splitting.put_run.Tie as tie
 
@@ -31,19 +31,19 @@ same-length : tie.Need-same-length
 same-length c = search needs
 
 returns : tie.Need-returns
-returns c = ran-shown (c .before .before .before .before .before .before .before .run .result) _ _ _ _ _ _ _ _ (c .before .before .before .before .before .before .before .run .ensures .0) (inl (c .before .before .before .before .before .match .keys1)) (c .before .before .put-search .ensures)
+returns c = prints-answer (ran-shown (c .before .before .before .before .before .before .before .run .result) _ _ _ _ _ _ (c .before .before .before .before .before .before .before .run .ensures .0) (inl (c .before .before .before .before .before .match .keys1))) (c .before .before .put-search .ensures)
 
 same-length-2 : tie.Need-same-length-2
 same-length-2 c = search needs
 
 returns-2 : tie.Need-returns-2
-returns-2 c = ran-shown (c .before .before .before .before .before .before .before .run .result) _ _ _ _ _ _ _ _ (c .before .before .before .before .before .before .before .run .ensures .0) (inr (c .before .before .before .before .before .match .keys2)) (c .before .before .put-search2 .ensures)
+returns-2 c = prints-answer (ran-shown (c .before .before .before .before .before .before .before .run .result) _ _ _ _ _ _ (c .before .before .before .before .before .before .before .run .ensures .0) (inr (c .before .before .before .before .before .match .keys2))) (c .before .before .put-search2 .ensures)
 
 same-length-3 : tie.Need-same-length-3
 same-length-3 c = search needs
 
 returns-3 : tie.Need-returns-3
-returns-3 c = ran-refused (c .before .before .before .before .before .before .before .before .run .result) _ _ _ _ _ _ _ _ (c .before .before .before .before .before .before .before .before .run .ensures .0) _ _ (c .before .before .before .before .before .answer .given .1) (c .before .before .put-refused .ensures)
+returns-3 c = prints-refusal _ _ (ran-refused (c .before .before .before .before .before .before .before .before .run .result) _ _ _ _ _ _ (c .before .before .before .before .before .before .before .before .run .ensures .0) _ _ (c .before .before .before .before .before .answer .given .1)) (c .before .before .put-refused .ensures)
 
 pub put-run-spec : {M : Type 1} → statement M
 put-run-spec =

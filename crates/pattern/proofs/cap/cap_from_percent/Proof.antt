@@ -4,7 +4,7 @@ use mathlib.Core.Path.{sym}
 use native.Mathlib.Omega.{arith}
 use native.Mathlib.Nat.{mul-le-mul}
 use Prim.Native.Nat.{ℕ, _*_, _^_, _≤_, _<_}
-use Rattle.model.specs.Split.{ceilingHalf, capFromPercent}
+use Rattle.model.specs.Split.{ceilingHalf, capHundredths, capFromPercent, restFromPercent}
 use Rattle.model.proofs.Theorems.Capped.{cap-too-big, cap-given, cap-refused}
 use Rattle.model.proofs.Theorems.Replies.{cap-told}
 use borrow.Author.Needs.{needs}
@@ -23,24 +23,24 @@ returns-2 c =
     let percent = c .before .before .args .percent in
     cap-told nonzeros percent (sym (cap-refused nonzeros percent (c .before .if1 .left) (c .if2 .taken)))
 
-add-t6 : tie.Need-add-t6
-add-t6 c = search needs
+add-hundredths : tie.Need-add-hundredths
+add-hundredths c = search needs
 
-add-t7 : tie.Need-add-t7
-add-t7 c = search needs
+add-hundredths-2 : tie.Need-add-hundredths-2
+add-hundredths-2 c = search needs
 
 product-fits : {a b : ℕ} → a ≤ 200 → b ≤ 2000 → a * b < 2 ^ 64
 product-fits g h = omega (arith, mul-le-mul g h)
 
-mul-t9 : tie.Need-mul-t9
-mul-t9 c = record { fits = product-fits (omega arith) (omega arith) }
+mul-hundredths : tie.Need-mul-hundredths
+mul-hundredths c = record { fits = product-fits (omega arith) (omega arith) }
 
 returns-3 : tie.Need-returns-3
-unfolding capFromPercent ceilingHalf
+unfolding capFromPercent restFromPercent capHundredths ceilingHalf
 returns-3 c =
     let nonzeros = c .before .before .args .nonzeros in
     let percent = c .before .before .args .percent in
     cap-told nonzeros percent (sym (cap-given nonzeros percent (c .before .if1 .left) (c .if2 .left)))
 
 pub cap-from-percent-spec : {M : Type 1} → statement M
-cap-from-percent-spec = tie.close (tie.spec returns returns-2 add-t6 add-t7 mul-t9 returns-3)
+cap-from-percent-spec = tie.close (tie.spec returns returns-2 add-hundredths add-hundredths-2 mul-hundredths returns-3)

@@ -1,0 +1,75 @@
+-- The cap and rest that the program shows, with a split or "none yet", are those of its text's N and of E.
+-- Assumes nothing.
+use mathlib.Core.Bool.{Bool}
+use mathlib.Core.List.{List}
+use mathlib.Core.Path.{_≡_, refl, sym, _∙_, ap, subst}
+use Prim.Native.Nat.{ℕ}
+use lib.ListN.{drop}
+use Rattle.counting.proofs.Joined.{by-test, pick-true, pick-false}
+use Rattle.model.specs.declared.Word.the-variants.{EntryForm}
+use Rattle.model.specs.declared.Verdict.{Verdict}
+use Rattle.model.specs.declared.Verdict.the-variants.{Accepted, Refused}
+use Rattle.model.specs.declared.CapAnswer.{CapAnswer}
+use Rattle.model.specs.declared.CapAnswer.the-variants as cap-answer
+use Rattle.model.specs.declared.Search.{Search}
+use Rattle.model.specs.declared.RunAnswer.{RunAnswer}
+use Rattle.model.specs.declared.RunAnswer.the-variants as run-answer
+use Rattle.model.specs.declared.ShowAnswer.{ShowAnswer}
+use Rattle.model.specs.declared.ShowAnswer.the-variants as show-answer
+use Rattle.model.specs.Split.{CutOff}
+use Rattle.model.specs.Calls.{openVerdict, capCall, openCall, runCall}
+use Rattle.model.proofs.Theorems.Capped.{cap-accepted}
+use Rattle.search.proofs.OneRun.{run-cap}
+use Rattle.texts.specs.declared.ReadAnswer.the-variants as read-answer
+use Rattle.texts.specs.Reading.{readCall, readList}
+use Rattle.answering.specs.FirstLine.{commandOf}
+use Rattle.answering.specs.Answer.{listRoom, partsRoom, Answer, gives-refusal, figuresOf, afterShowing, searchAnswer, afterRun, ranAnswer, afterOpening, openedAnswer, afterCap, patternAnswer, answerTo}
+use Rattle.answering.specs.CapShown.{ShowsCap}
+use Rattle.answering.proofs.SameNonzeros.{text-read}
+
+module _ (m n nonzeros : ℕ) (list : List ℕ) (percent budget : ℕ) where
+  -- after a run of a search with this cap
+  module _ (s : Search) (rest : ℕ) (cut : CutOff nonzeros percent (s .cap) rest) where
+    shown-so : (a : ShowAnswer) (parts : List ℕ) → ShowsCap nonzeros percent (afterShowing a s rest m n nonzeros list parts)
+    unfolding afterShowing figuresOf
+    shown-so (show-answer.Split volume floor) parts = (refl, cut)
+    shown-so (show-answer.NoneYet floor) parts = cut
+    shown-so (show-answer.Refused word place) parts = tt
+
+    run-so : (a : RunAnswer) → ShowsCap nonzeros percent (afterRun a s rest m n nonzeros list)
+    unfolding afterRun searchAnswer
+    run-so run-answer.Complete = shown-so _ _
+    run-so run-answer.Stopped = shown-so _ _
+    run-so (run-answer.Refused word place) = tt
+
+  -- after an opening with a cap that was answered, and after the cap
+  opened-so :
+      (v : Verdict) (cap rest : ℕ) → openVerdict m n nonzeros list cap ≡ v → CutOff nonzeros percent cap rest →
+      ShowsCap nonzeros percent (afterOpening v (openCall m n nonzeros list cap .search) rest m n nonzeros list budget)
+  unfolding afterOpening ranAnswer
+  opened-so Accepted cap rest e cut =
+      run-so _ rest (subst (λ (c : ℕ). CutOff nonzeros percent c rest) (sym (run-cap m n nonzeros list cap budget e)) cut) _
+  opened-so (Refused word place) cap rest e cut = tt
+
+  capped-so : (a : CapAnswer) → capCall nonzeros percent ≡ a → ShowsCap nonzeros percent (afterCap a m n nonzeros list budget)
+  unfolding afterCap openedAnswer openCall
+  capped-so (cap-answer.Capped cap rest) e = opened-so _ cap rest refl (cap-accepted nonzeros percent cap rest e .cut)
+  capped-so (cap-answer.Refused word place) e = tt
+
+-- the answer to an input whose text is read
+pub cap-shown :
+    (input : List ℕ) (m n nonzeros : ℕ) (integer : Bool) →
+    readCall (drop (commandOf input .next) input) listRoom partsRoom ≡ read-answer.Read m n nonzeros integer →
+    ShowsCap nonzeros (commandOf input .percent) (answerTo input)
+unfolding answerTo
+cap-shown input m n nonzeros integer e =
+    let o = commandOf input in
+    let text = drop (o .next) input in
+    let answer = patternAnswer text (o .percent) (o .budget) in
+    let shows : Answer → Type 0 = ShowsCap nonzeros (o .percent) in
+    by-test
+    (o .fine)
+    (λ right. subst shows
+    (sym (pick-true answer (gives-refusal EntryForm 0) right ∙ text-read text m n nonzeros integer (o .percent) (o .budget) e))
+    (capped-so m n nonzeros (readList text listRoom partsRoom) (o .percent) (o .budget) (capCall nonzeros (o .percent)) refl))
+    (λ wrong. subst shows (sym (pick-false answer (gives-refusal EntryForm 0) wrong)) tt)
