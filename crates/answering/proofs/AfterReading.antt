@@ -86,17 +86,17 @@ module _ (text : List ℕ) (percent budget : ℕ) (accepted : readVerdict text l
     abbrev After : Search
     After = Run m n nonzeros list cap budget capped .search
 
-    after-run : patternAnswer text percent budget ≡ afterRun (Run m n nonzeros list cap budget capped .answer) After rest m n nonzeros list
+    after-run : patternAnswer text percent budget ≡ afterRun rest m n nonzeros list (Run m n nonzeros list cap budget capped .answer) After
     unfolding afterCap openedAnswer openCall afterOpening ranAnswer
     after-run =
         after-cap
         ∙ ap (λ (a : CapAnswer). afterCap a m n nonzeros list budget) (cap-given nonzeros percent few low)
-        ∙ ap (λ (v : Verdict). afterOpening v (openCall m n nonzeros list cap .search) rest m n nonzeros list budget) capped
+        ∙ ap (λ (v : Verdict). afterOpening rest m n nonzeros list v (openCall m n nonzeros list cap .search) budget) capped
 
     -- B out of its range is refused 13
     pub budget-refused : budgetLimit < budget → patternAnswer text percent budget ≡ gives-refusal Budget 0
     unfolding afterRun
-    budget-refused over = after-run ∙ ap (λ (a : RunAnswer). afterRun a After rest m n nonzeros list) (run-refused m n nonzeros list cap budget capped over)
+    budget-refused over = after-run ∙ ap (λ (a : RunAnswer). afterRun rest m n nonzeros list a After) (run-refused m n nonzeros list cap budget capped over)
 
     -- with B in its range nothing is refused
     module _ (within : budget ≤ budgetLimit) (out : List ℕ) (room : outputRoom ≤ length out) where
@@ -121,7 +121,7 @@ module _ (text : List ℕ) (percent budget : ℕ) (accepted : readVerdict text l
           (write-answer.Written (length written))
           (le-ltb (length out) (length written) (omega (arith, room, text-short (fine-split m n nonzeros list Parts fine) f)))
 
-      shown-tells : (a : ShowAnswer) → Showing ≡ a → NoRefusal (printedAs (afterShowing a After rest m n nonzeros list Parts) out)
+      shown-tells : (a : ShowAnswer) → Showing ≡ a → NoRefusal (printedAs (afterShowing rest m n nonzeros list a After Parts) out)
       unfolding afterShowing printedAs afterWriting
       shown-tells (show-answer.Split volume floor) e =
           let f = figuresOf After rest volume floor in
@@ -131,7 +131,7 @@ module _ (text : List ℕ) (percent budget : ℕ) (accepted : readVerdict text l
       shown-tells (show-answer.Refused word place) e =
           refused-not (sym (told m n nonzeros list cap budget capped within partsRoom .refused word place .0 e) ∙ shows m n nonzeros list cap budget capped within partsRoom parts-room)
 
-      run-tells : (done : Bool) → NoRefusal (printedAs (afterRun (ended done) After rest m n nonzeros list) out)
+      run-tells : (done : Bool) → NoRefusal (printedAs (afterRun rest m n nonzeros list (ended done) After) out)
       unfolding ended afterRun searchAnswer
       run-tells true = shown-tells Showing refl
       run-tells false = shown-tells Showing refl
@@ -140,5 +140,5 @@ module _ (text : List ℕ) (percent budget : ℕ) (accepted : readVerdict text l
       text-answered =
           subst
           (λ a. NoRefusal (printedAs a out))
-          (sym (after-run ∙ ap (λ (a : RunAnswer). afterRun a After rest m n nonzeros list) (run-ended m n nonzeros list cap budget capped within)))
+          (sym (after-run ∙ ap (λ (a : RunAnswer). afterRun rest m n nonzeros list a After) (run-ended m n nonzeros list cap budget capped within)))
           (run-tells _)

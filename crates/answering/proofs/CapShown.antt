@@ -2,7 +2,7 @@
 -- Assumes nothing.
 use mathlib.Core.Bool.{Bool}
 use mathlib.Core.List.{List}
-use mathlib.Core.Path.{_≡_, refl, sym, _∙_, ap, subst}
+use mathlib.Core.Path.{_≡_, refl, sym, _∙_, subst}
 use Prim.Native.Nat.{ℕ}
 use lib.ListN.{drop}
 use Rattle.counting.proofs.Joined.{by-test, pick-true, pick-false}
@@ -17,7 +17,7 @@ use Rattle.model.specs.declared.RunAnswer.the-variants as run-answer
 use Rattle.model.specs.declared.ShowAnswer.{ShowAnswer}
 use Rattle.model.specs.declared.ShowAnswer.the-variants as show-answer
 use Rattle.model.specs.Split.{CutOff}
-use Rattle.model.specs.Calls.{openVerdict, capCall, openCall, runCall}
+use Rattle.model.specs.Calls.{openVerdict, capCall, openCall}
 use Rattle.model.proofs.Theorems.Capped.{cap-accepted}
 use Rattle.search.proofs.OneRun.{run-cap}
 use Rattle.texts.specs.declared.ReadAnswer.the-variants as read-answer
@@ -30,13 +30,13 @@ use Rattle.answering.proofs.SameNonzeros.{text-read}
 module _ (m n nonzeros : ℕ) (list : List ℕ) (percent budget : ℕ) where
   -- after a run of a search with this cap
   module _ (s : Search) (rest : ℕ) (cut : CutOff nonzeros percent (s .cap) rest) where
-    shown-so : (a : ShowAnswer) (parts : List ℕ) → ShowsCap nonzeros percent (afterShowing a s rest m n nonzeros list parts)
+    shown-so : (a : ShowAnswer) (parts : List ℕ) → ShowsCap nonzeros percent (afterShowing rest m n nonzeros list a s parts)
     unfolding afterShowing figuresOf
     shown-so (show-answer.Split volume floor) parts = (refl, cut)
     shown-so (show-answer.NoneYet floor) parts = cut
     shown-so (show-answer.Refused word place) parts = tt
 
-    run-so : (a : RunAnswer) → ShowsCap nonzeros percent (afterRun a s rest m n nonzeros list)
+    run-so : (a : RunAnswer) → ShowsCap nonzeros percent (afterRun rest m n nonzeros list a s)
     unfolding afterRun searchAnswer
     run-so run-answer.Complete = shown-so _ _
     run-so run-answer.Stopped = shown-so _ _
@@ -45,7 +45,7 @@ module _ (m n nonzeros : ℕ) (list : List ℕ) (percent budget : ℕ) where
   -- after an opening with a cap that was answered, and after the cap
   opened-so :
       (v : Verdict) (cap rest : ℕ) → openVerdict m n nonzeros list cap ≡ v → CutOff nonzeros percent cap rest →
-      ShowsCap nonzeros percent (afterOpening v (openCall m n nonzeros list cap .search) rest m n nonzeros list budget)
+      ShowsCap nonzeros percent (afterOpening rest m n nonzeros list v (openCall m n nonzeros list cap .search) budget)
   unfolding afterOpening ranAnswer
   opened-so Accepted cap rest e cut =
       run-so _ rest (subst (λ (c : ℕ). CutOff nonzeros percent c rest) (sym (run-cap m n nonzeros list cap budget e)) cut) _

@@ -45,7 +45,7 @@ use Rattle.writing.proofs.Puttings.{puts-none, puts-as}
 use Rattle.writing.proofs.Answers.{write-puts, write-keeps}
 use Rattle.answering.specs.declared.Command.{Command}
 use Rattle.answering.specs.FirstLine.{commandOf}
-use Rattle.answering.specs.Answer.{listRoom, partsRoom, Answer, gives-split, gives-none, gives-refusal, afterWriting, printedAs, lineText, figuresOf, afterShowing, searchAnswer, afterRun, ranAnswer, afterOpening, openedAnswer, afterCap, afterReading, patternAnswer, answerTo, answerText}
+use Rattle.answering.specs.Answer.{listRoom, partsRoom, Answer, gives-split, gives-refusal, afterWriting, printedAs, lineText, figuresOf, afterShowing, searchAnswer, afterRun, ranAnswer, afterOpening, openedAnswer, afterCap, afterReading, patternAnswer, answerTo}
 
 -- an answer printed is printed as any that equals it
 module _ {out new : List ℕ} {r : ℕ} {answer : Answer} where
@@ -128,13 +128,13 @@ module _ (m n nonzeros : ℕ) (list parts : List ℕ) (f : Figures) (out : List 
 -- a showing: the line, or the split
 module _ (s : Search) (rest m n nonzeros : ℕ) (list parts : List ℕ) (a : ShowAnswer)
     (called : a ≡ showCall s m n nonzeros list partsRoom) (given : parts ≡ showParts s m n nonzeros list partsRoom) where
-  search-shown : afterShowing a s rest m n nonzeros list parts ≡ searchAnswer s rest m n nonzeros list
+  search-shown : afterShowing rest m n nonzeros list a s parts ≡ searchAnswer rest m n nonzeros list s
   unfolding searchAnswer
   search-shown = rw (called, given)
 
   line-so :
       (out : List ℕ) (x : ShowAnswer) → OneOf (1 ∷ 2 ∷ []) (tagOf (declared show-enum) x) →
-      lineText x (s .cap) rest (s .tries) ≡ printedAs (afterShowing x s rest m n nonzeros list parts) out
+      lineText x (s .cap) rest (s .tries) ≡ printedAs (afterShowing rest m n nonzeros list x s parts) out
   unfolding lineText afterShowing printedAs
   line-so out (show-answer.Split volume floor) h = ⊎-elim (λ e. no-way (omega arith)) (λ e. no-way (omega arith)) h
   line-so out (show-answer.NoneYet floor) h = refl
@@ -142,66 +142,66 @@ module _ (s : Search) (rest m n nonzeros : ℕ) (list parts : List ℕ) (a : Sho
 
   pub shown-line :
       {out new : List ℕ} {r : ℕ} → OneOf (1 ∷ 2 ∷ []) (tagOf (declared show-enum) a) → Puts out 0 (lineText a (s .cap) rest (s .tries)) new r →
-      Puts out 0 (printedAs (searchAnswer s rest m n nonzeros list) out) new r
+      Puts out 0 (printedAs (searchAnswer rest m n nonzeros list s) out) new r
   shown-line {out} h p = prints-answer search-shown (puts-as (line-so out a h) p)
 
   pub shown-split :
       (volume floor : ℕ) (f : Figures) → a ≡ show-answer.Split volume floor → f ≡ figuresOf s rest volume floor →
-      gives-split m n nonzeros list parts f ≡ searchAnswer s rest m n nonzeros list
+      gives-split m n nonzeros list parts f ≡ searchAnswer rest m n nonzeros list s
   unfolding afterShowing
   shown-split volume floor f h figures =
       ap (gives-split m n nonzeros list parts) figures
-      ∙ ap (λ (x : ShowAnswer). afterShowing x s rest m n nonzeros list parts) (sym h)
+      ∙ ap (λ (x : ShowAnswer). afterShowing rest m n nonzeros list x s parts) (sym h)
       ∙ search-shown
 
 -- what a run answered
 module _ (ran call : Ran) (rest m n nonzeros : ℕ) (list : List ℕ) (called : ran ≡ call) where
   run-shown :
       (a : RunAnswer) → (tagOf (declared run-enum) a ≡ 0) ⊎ (tagOf (declared run-enum) a ≡ 1) →
-      searchAnswer (ran .search) rest m n nonzeros list ≡ afterRun a (ran .search) rest m n nonzeros list
+      searchAnswer rest m n nonzeros list (ran .search) ≡ afterRun rest m n nonzeros list a (ran .search)
   unfolding afterRun
   run-shown run-answer.Complete h = refl
   run-shown run-answer.Stopped h = refl
   run-shown (run-answer.Refused word place) h = ⊎-elim (λ e. no-way (omega arith)) (λ e. no-way (omega arith)) h
 
-  ran-so : afterRun (ran .answer) (ran .search) rest m n nonzeros list ≡ ranAnswer call rest m n nonzeros list
+  ran-so : afterRun rest m n nonzeros list (ran .answer) (ran .search) ≡ ranAnswer rest m n nonzeros list call
   unfolding ranAnswer
   ran-so = rw called
 
   pub ran-shown :
       (tagOf (declared run-enum) (ran .answer) ≡ 0) ⊎ (tagOf (declared run-enum) (ran .answer) ≡ 1) →
-      searchAnswer (ran .search) rest m n nonzeros list ≡ ranAnswer call rest m n nonzeros list
+      searchAnswer rest m n nonzeros list (ran .search) ≡ ranAnswer rest m n nonzeros list call
   ran-shown h = run-shown (ran .answer) h ∙ ran-so
 
-  pub ran-refused : (word : Word) (place : ℕ) → ran .answer ≡ run-answer.Refused word place → gives-refusal word place ≡ ranAnswer call rest m n nonzeros list
+  pub ran-refused : (word : Word) (place : ℕ) → ran .answer ≡ run-answer.Refused word place → gives-refusal word place ≡ ranAnswer rest m n nonzeros list call
   unfolding afterRun
-  ran-refused word place e = ap (λ (a : RunAnswer). afterRun a (ran .search) rest m n nonzeros list) (sym e) ∙ ran-so
+  ran-refused word place e = ap (λ (a : RunAnswer). afterRun rest m n nonzeros list a (ran .search)) (sym e) ∙ ran-so
 
 -- what an opening answered
 module _ (opened call : Opened) (rest m n nonzeros : ℕ) (list : List ℕ) (budget : ℕ) (called : opened ≡ call) where
   opened-as :
-      (v : Verdict) → opened .verdict ≡ v → afterOpening v (opened .search) rest m n nonzeros list budget ≡ openedAnswer call rest m n nonzeros list budget
+      (v : Verdict) → opened .verdict ≡ v → afterOpening rest m n nonzeros list v (opened .search) budget ≡ openedAnswer rest m n nonzeros list call budget
   unfolding openedAnswer
-  opened-as v e = ap (λ (x : Verdict). afterOpening x (opened .search) rest m n nonzeros list budget) (sym e) ∙ rw called
+  opened-as v e = ap (λ (x : Verdict). afterOpening rest m n nonzeros list x (opened .search) budget) (sym e) ∙ rw called
 
   pub opened-run :
       opened .verdict ≡ Accepted →
-      ranAnswer (runCall (opened .search) m n nonzeros list budget) rest m n nonzeros list ≡ openedAnswer call rest m n nonzeros list budget
+      ranAnswer rest m n nonzeros list (runCall (opened .search) m n nonzeros list budget) ≡ openedAnswer rest m n nonzeros list call budget
   unfolding afterOpening
   opened-run e = opened-as Accepted e
 
-  pub opened-refused : (word : Word) (place : ℕ) → opened .verdict ≡ Refused word place → gives-refusal word place ≡ openedAnswer call rest m n nonzeros list budget
+  pub opened-refused : (word : Word) (place : ℕ) → opened .verdict ≡ Refused word place → gives-refusal word place ≡ openedAnswer rest m n nonzeros list call budget
   unfolding afterOpening
   opened-refused word place e = opened-as (Refused word place) e
 
 -- what the cap from a percentage answered
 module _ (a call : CapAnswer) (m n nonzeros : ℕ) (list : List ℕ) (budget : ℕ) (called : a ≡ call) where
-  pub capped-as : (x : CapAnswer) → a ≡ x → afterCap x m n nonzeros list budget ≡ afterCap call m n nonzeros list budget
+  capped-as : (x : CapAnswer) → a ≡ x → afterCap x m n nonzeros list budget ≡ afterCap call m n nonzeros list budget
   capped-as x e = ap (λ (y : CapAnswer). afterCap y m n nonzeros list budget) (sym e ∙ called)
 
   pub capped-opened :
       (cap rest : ℕ) → a ≡ cap-answer.Capped cap rest →
-      openedAnswer (openCall m n nonzeros list cap) rest m n nonzeros list budget ≡ afterCap call m n nonzeros list budget
+      openedAnswer rest m n nonzeros list (openCall m n nonzeros list cap) budget ≡ afterCap call m n nonzeros list budget
   unfolding afterCap
   capped-opened cap rest e = capped-as (cap-answer.Capped cap rest) e
 

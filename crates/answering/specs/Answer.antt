@@ -74,52 +74,43 @@ figuresOf s rest volume floor =
       complete = completeNumber (s .complete);
     }
 
--- after the showing
-unfoldable pub afterShowing : ShowAnswer → Search → ℕ → ℕ → ℕ → ℕ → List ℕ → List ℕ → Answer
-afterShowing (show-answer.Split volume floor) s rest m n nonzeros list parts =
-    gives-split m n nonzeros list parts (figuresOf s rest volume floor)
-afterShowing (show-answer.NoneYet floor) s rest m n nonzeros list parts =
-    gives-none (s .cap) rest (s .tries) floor
-afterShowing (show-answer.Refused word place) s rest m n nonzeros list parts = gives-refusal word place
+-- what follows the cap, for a pattern and the rest of its cap
+module _ (rest m n nonzeros : ℕ) (list : List ℕ) where
+  -- after the showing
+  unfoldable pub afterShowing : ShowAnswer → Search → List ℕ → Answer
+  afterShowing (show-answer.Split volume floor) s parts =
+      gives-split m n nonzeros list parts (figuresOf s rest volume floor)
+  afterShowing (show-answer.NoneYet floor) s parts = gives-none (s .cap) rest (s .tries) floor
+  afterShowing (show-answer.Refused word place) s parts = gives-refusal word place
 
--- a showing of a search
-unfoldable pub searchAnswer : Search → ℕ → ℕ → ℕ → ℕ → List ℕ → Answer
-searchAnswer s rest m n nonzeros list =
-    afterShowing
-    (showCall s m n nonzeros list partsRoom)
-    s
-    rest
-    m
-    n
-    nonzeros
-    list
-    (showParts s m n nonzeros list partsRoom)
+  -- a showing of a search
+  unfoldable pub searchAnswer : Search → Answer
+  searchAnswer s =
+      afterShowing (showCall s m n nonzeros list partsRoom) s (showParts s m n nonzeros list partsRoom)
 
--- after the run
-unfoldable pub afterRun : RunAnswer → Search → ℕ → ℕ → ℕ → ℕ → List ℕ → Answer
-afterRun run-answer.Complete s rest m n nonzeros list = searchAnswer s rest m n nonzeros list
-afterRun run-answer.Stopped s rest m n nonzeros list = searchAnswer s rest m n nonzeros list
-afterRun (run-answer.Refused word place) s rest m n nonzeros list = gives-refusal word place
+  -- after the run
+  unfoldable pub afterRun : RunAnswer → Search → Answer
+  afterRun run-answer.Complete s = searchAnswer s
+  afterRun run-answer.Stopped s = searchAnswer s
+  afterRun (run-answer.Refused word place) s = gives-refusal word place
 
--- one run
-unfoldable pub ranAnswer : Ran → ℕ → ℕ → ℕ → ℕ → List ℕ → Answer
-ranAnswer ran rest m n nonzeros list = afterRun (ran .answer) (ran .search) rest m n nonzeros list
+  -- one run
+  unfoldable pub ranAnswer : Ran → Answer
+  ranAnswer ran = afterRun (ran .answer) (ran .search)
 
--- after the opening
-unfoldable pub afterOpening : Verdict → Search → ℕ → ℕ → ℕ → ℕ → List ℕ → ℕ → Answer
-afterOpening Accepted s rest m n nonzeros list budget =
-    ranAnswer (runCall s m n nonzeros list budget) rest m n nonzeros list
-afterOpening (Refused word place) s rest m n nonzeros list budget = gives-refusal word place
+  -- after the opening
+  unfoldable pub afterOpening : Verdict → Search → ℕ → Answer
+  afterOpening Accepted s budget = ranAnswer (runCall s m n nonzeros list budget)
+  afterOpening (Refused word place) s budget = gives-refusal word place
 
--- the opening
-unfoldable pub openedAnswer : Opened → ℕ → ℕ → ℕ → ℕ → List ℕ → ℕ → Answer
-openedAnswer opened rest m n nonzeros list budget =
-    afterOpening (opened .verdict) (opened .search) rest m n nonzeros list budget
+  -- the opening
+  unfoldable pub openedAnswer : Opened → ℕ → Answer
+  openedAnswer opened budget = afterOpening (opened .verdict) (opened .search) budget
 
 -- after the cap from a percentage
 unfoldable pub afterCap : CapAnswer → ℕ → ℕ → ℕ → List ℕ → ℕ → Answer
 afterCap (cap-answer.Capped cap rest) m n nonzeros list budget =
-    openedAnswer (openCall m n nonzeros list cap) rest m n nonzeros list budget
+    openedAnswer rest m n nonzeros list (openCall m n nonzeros list cap) budget
 afterCap (cap-answer.Refused word place) m n nonzeros list budget = gives-refusal word place
 
 -- after the reading (parts unused)

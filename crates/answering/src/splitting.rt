@@ -77,7 +77,7 @@ fn put_search(
     list: &[u8],
     out: &mut [u8],
 ) -> usize
-    ensures { λ r. ⌜ Puts (now (out .entry)) 0 (printedAs (searchAnswer search rest m n nonzeros (now (list .entry))) (now (out .entry))) (now (out .exit)) r ⌝ }
+    ensures { λ r. ⌜ Puts (now (out .entry)) 0 (printedAs (searchAnswer rest m n nonzeros (now (list .entry)) search) (now (out .entry))) (now (out .exit)) r ⌝ }
 {
     let mut parts = [0u8; 2000];
     let shown = search::show(search, m, n, nonzeros, list, &mut parts);
@@ -99,7 +99,7 @@ fn put_run(
     budget: u64,
     out: &mut [u8],
 ) -> usize
-    ensures { λ r. ⌜ Puts (now (out .entry)) 0 (printedAs (ranAnswer (runCall search m n nonzeros (now (list .entry)) budget) rest m n nonzeros (now (list .entry))) (now (out .entry))) (now (out .exit)) r ⌝ }
+    ensures { λ r. ⌜ Puts (now (out .entry)) 0 (printedAs (ranAnswer rest m n nonzeros (now (list .entry)) (runCall search m n nonzeros (now (list .entry)) budget)) (now (out .entry))) (now (out .exit)) r ⌝ }
 {
     let ran = search::run(search, m, n, nonzeros, list, budget);
     let answer = ran.answer;
@@ -122,7 +122,7 @@ fn put_opening(
     budget: u64,
     out: &mut [u8],
 ) -> usize
-    ensures { λ r. ⌜ Puts (now (out .entry)) 0 (printedAs (openedAnswer (openCall m n nonzeros (now (list .entry)) cap) rest m n nonzeros (now (list .entry)) budget) (now (out .entry))) (now (out .exit)) r ⌝ }
+    ensures { λ r. ⌜ Puts (now (out .entry)) 0 (printedAs (openedAnswer rest m n nonzeros (now (list .entry)) (openCall m n nonzeros (now (list .entry)) cap) budget) (now (out .entry))) (now (out .exit)) r ⌝ }
 {
     let opened = search::open(m, n, nonzeros, list, cap);
     let verdict = opened.verdict;

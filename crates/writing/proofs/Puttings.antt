@@ -57,24 +57,15 @@ pub number-short : (n b : ℕ) → length (numberText n b) ≤ 21
 unfolding numberText
 number-short n b = omega (arith, length-append (decimals 20 n) (b ∷ []), decimals-short 20 n)
 
-sizes-short : (m n nonzeros : ℕ) → length (sizesText m n nonzeros) ≤ 63
+pub sizes-short : (m n nonzeros : ℕ) → length (sizesText m n nonzeros) ≤ 63
 unfolding sizesText
 sizes-short m n nonzeros =
     omega
     (arith, length-append (numberText m 32) (numberText n 32 ++ numberText nonzeros 10), length-append (numberText n 32) (numberText nonzeros 10), number-short m 32, number-short n 32, number-short nonzeros 10)
 
--- the place after a number's digits, and after the number
-pub decimals-room : (n : ℕ) {page new : List ℕ} {at next : ℕ} → Puts page at (decimals 20 n) new next → next ≤ at + 20
-decimals-room n {page} {new} {at} {next} p = omega (arith, p .after, decimals-short 20 n)
-
-pub number-room : (n b : ℕ) {page new : List ℕ} {at next : ℕ} → Puts page at (numberText n b) new next → next ≤ at + 21
-number-room n b {page} {new} {at} {next} p = omega (arith, p .after, number-short n b)
-
-pub sizes-room : (m n nonzeros : ℕ) {page new : List ℕ} {at next : ℕ} → Puts page at (sizesText m n nonzeros) new next → next ≤ at + 63
-sizes-room m n nonzeros {page} {new} {at} {next} p = omega (arith, p .after, sizes-short m n nonzeros)
-
-pub bytes-room : {page new text : List ℕ} {at next : ℕ} → Puts page at text new next → next ≡ at + length text
-bytes-room p = p .after
+-- the place after a text that is no longer than this
+pub ends-within : {page new text : List ℕ} {at next most : ℕ} → length text ≤ most → Puts page at text new next → next ≤ at + most
+ends-within {page} {new} {text} {at} {next} {most} h p = omega (arith, h, p .after)
 
 -- bytes put one by one
 pub puts-start : (page bytes : List ℕ) (at : ℕ) → Puts page at (take 0 bytes) page (at + 0)
@@ -119,9 +110,6 @@ pub figure-short : (label : List ℕ) (n : ℕ) → length (figureText label n) 
 unfolding figureText
 figure-short label n = omega (arith, length-append label (numberText n 32), number-short n 32)
 
-pub figure-room : (label : List ℕ) (n : ℕ) {page new : List ℕ} {at next : ℕ} → Puts page at (figureText label n) new next → next ≤ at + (length label + 21)
-figure-room label n {page} {new} {at} {next} p = omega (arith, p .after, figure-short label n)
-
 -- what the comment and the line "none yet" both say
 pub puts-figures :
     {page p1 p2 p3 p4 p5 : List ℕ} {at r1 r2 r3 r4 r5 : ℕ} (cap rest tries floor b : ℕ) →
@@ -138,10 +126,6 @@ figures-short cap rest tries floor b =
     let second = figureText #rest rest ++ third in
     omega
     (arith, length-append (figureText #cap cap) second, length-append (figureText #rest rest) third, length-append (figureText #tries tries) last, length-append #floor (numberText floor b), figure-short #cap cap, figure-short #rest rest, figure-short #tries tries, number-short floor b)
-
-pub figures-room :
-    (cap rest tries floor b : ℕ) {page new : List ℕ} {at next : ℕ} → Puts page at (figuresText cap rest tries floor b) new next → next ≤ at + 105
-figures-room cap rest tries floor b {page} {new} {at} {next} p = omega (arith, p .after, figures-short cap rest tries floor b)
 
 pub ending-stopped : (complete : ℕ) → complete ≡ 0 → #stopped ≡ endingText complete
 unfolding endingText
@@ -189,9 +173,9 @@ unfolding entryText
 puts-entry list parts t row wide-row column wide-column place part wide-part i j p e1 e2 e3 e4 e5 e6 e7 h e8 e9 e10 =
     puts-as (rw (e8, e9, e10, e2, e4, e7, e1, e3, e6, e5)) h
 
-pub entry-room : (list parts : List ℕ) (t : ℕ) {page new : List ℕ} {at next : ℕ} → Puts page at (entryText list parts t) new next → next ≤ at + 63
+pub entry-short : (list parts : List ℕ) (t : ℕ) → length (entryText list parts t) ≤ 63
 unfolding entryText
-entry-room list parts t {page} {new} {at} {next} p = sizes-room (rowIn list t + 1) (columnIn list t + 1) (getD parts t 0 + 1) p
+entry-short list parts t = sizes-short (rowIn list t + 1) (columnIn list t + 1) (getD parts t 0 + 1)
 
 -- entries one after another
 pub entries-start : (page list parts : List ℕ) (at : ℕ) → Puts page at (entriesText list parts 0) page at
@@ -216,9 +200,6 @@ puts-head f p q = puts-then p q
 pub head-short : (f : Figures) → length (headText f) ≤ 193
 unfolding headText
 head-short f = omega (arith, length-append #first-line (commentText f), comment-short f)
-
-pub head-room : (f : Figures) {page new : List ℕ} {at next : ℕ} → Puts page at (headText f) new next → next ≤ at + 193
-head-room f {page} {new} {at} {next} p = omega (arith, p .after, head-short f)
 
 pub puts-body :
     {page first last : List ℕ} {at mid next : ℕ} (m n nonzeros : ℕ) (list parts : List ℕ) →

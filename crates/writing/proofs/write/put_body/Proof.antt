@@ -1,7 +1,7 @@
 -- `writing::put_body` meets its contract.
 -- Assumes nothing.
 use native.Mathlib.Omega.{arith}
-use Rattle.writing.proofs.Puttings.{sizes-room, puts-body}
+use Rattle.writing.proofs.Puttings.{ends-within, sizes-short, puts-body}
 use borrow.Author.Needs.{needs}
 use Rattle.writing.proofs.write.put_body.Statement.{statement}
 use Rattle.writing.proofs.write.put_body.Tie as tie
@@ -10,7 +10,7 @@ put-sizes-requires : tie.Need-put-sizes-requires
 put-sizes-requires c κs = omega arith
 
 put-entries-requires : tie.Need-put-entries-requires
-put-entries-requires c κs = omega (arith, sizes-room _ _ _ (c .before .before .before .put-sizes .ensures))
+put-entries-requires c κs = omega (arith, ends-within (sizes-short _ _ _) (c .before .before .before .put-sizes .ensures))
 
 same-length : tie.Need-same-length
 same-length c = search needs

@@ -1,7 +1,7 @@
 -- `writing::put_comment` meets its contract.
 -- Assumes nothing.
 use native.Mathlib.Omega.{arith}
-use Rattle.writing.proofs.Puttings.{figure-room, figures-room, puts-comment}
+use Rattle.writing.proofs.Puttings.{ends-within, figure-short, figures-short, puts-comment}
 use borrow.Author.Needs.{needs}
 use Rattle.writing.proofs.write.put_comment.Statement.{statement}
 use Rattle.writing.proofs.write.put_comment.Tie as tie
@@ -13,10 +13,10 @@ put-figure-requires : tie.Need-put-figure-requires
 put-figure-requires c κs = (omega arith, omega arith)
 
 put-figures-requires : tie.Need-put-figures-requires
-put-figures-requires c κs = omega (arith, figure-room _ _ (c .before .before .before .put-figure .ensures))
+put-figures-requires c κs = omega (arith, ends-within (figure-short _ _) (c .before .before .before .put-figure .ensures))
 
 put-ending-requires : tie.Need-put-ending-requires
-put-ending-requires c κs = omega (arith, figures-room _ _ _ _ _ (c .before .before .before .put-figures .ensures), figure-room _ _ (c .before .before .before .before .before .before .before .put-figure .ensures))
+put-ending-requires c κs = omega (arith, ends-within (figures-short _ _ _ _ _) (c .before .before .before .put-figures .ensures), ends-within (figure-short _ _) (c .before .before .before .before .before .before .before .put-figure .ensures))
 
 same-length : tie.Need-same-length
 same-length c = search needs

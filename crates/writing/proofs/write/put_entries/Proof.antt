@@ -5,7 +5,7 @@ use native.Mathlib.Omega.{arith}
 use Prim.Native.Nat.{_≤_, _-_, _+_, _*_}
 use lib.ListN.{length}
 use Rattle.writing.specs.Written.{Puts, entriesText}
-use Rattle.writing.proofs.Puttings.{puts-as, puts-length, entries-start, entries-next, entry-room}
+use Rattle.writing.proofs.Puttings.{ends-within, puts-as, puts-length, entries-start, entries-next, entry-short}
 use borrow.Author.Needs.{needs}
 use Rattle.writing.proofs.write.put_entries.Statement.{statement}
 use Rattle.writing.proofs.write.put_entries.Tie as tie
@@ -29,7 +29,7 @@ loop-less : tie.Need-loop-less Inv-loop μ-loop
 loop-less c = search needs
 
 loop-again : tie.Need-loop-again Inv-loop μ-loop
-loop-again c = let i = c .before .before .before .before .before .loop .inv in let w = entry-room _ _ _ (c .before .before .put-entry .ensures) in (search needs, puts-length (c .before .before .put-entry .ensures) ∙ i .1, omega arith, entries-next _ _ _ (i .3) (c .before .before .put-entry .ensures))
+loop-again c = let i = c .before .before .before .before .before .loop .inv in let w = ends-within (entry-short _ _ _) (c .before .before .put-entry .ensures) in (search needs, puts-length (c .before .before .put-entry .ensures) ∙ i .1, omega arith, entries-next _ _ _ (i .3) (c .before .before .put-entry .ensures))
 
 same-length : tie.Need-same-length Inv-loop μ-loop
 same-length c = c .before .loop .inv .1

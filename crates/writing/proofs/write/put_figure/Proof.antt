@@ -1,7 +1,7 @@
 -- `writing::put_figure` meets its contract.
 -- Assumes nothing.
 use native.Mathlib.Omega.{arith}
-use Rattle.writing.proofs.Puttings.{bytes-room, puts-figure}
+use Rattle.writing.proofs.Puttings.{puts-figure}
 use borrow.Author.Needs.{needs}
 use Rattle.writing.proofs.write.put_figure.Statement.{statement}
 use Rattle.writing.proofs.write.put_figure.Tie as tie
@@ -10,7 +10,7 @@ put-bytes-requires : tie.Need-put-bytes-requires
 put-bytes-requires c κs = (omega arith, omega arith)
 
 put-number-requires : tie.Need-put-number-requires
-put-number-requires c κs = omega (arith, bytes-room (c .before .before .before .put-bytes .ensures))
+put-number-requires c κs = omega (arith, c .before .before .before .put-bytes .ensures .after)
 
 same-length : tie.Need-same-length
 same-length c = search needs

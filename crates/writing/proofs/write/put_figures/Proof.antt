@@ -1,7 +1,7 @@
 -- `writing::put_figures` meets its contract.
 -- Assumes nothing.
 use native.Mathlib.Omega.{arith}
-use Rattle.writing.proofs.Puttings.{bytes-room, figure-room, puts-figures}
+use Rattle.writing.proofs.Puttings.{ends-within, figure-short, puts-figures}
 use borrow.Author.Needs.{needs}
 use Rattle.writing.proofs.write.put_figures.Statement.{statement}
 use Rattle.writing.proofs.write.put_figures.Tie as tie
@@ -16,22 +16,22 @@ slice-aggregate-put-figure-2 : tie.Need-slice-aggregate-put-figure-2
 slice-aggregate-put-figure-2 c = search needs
 
 put-figure-requires-2 : tie.Need-put-figure-requires-2
-put-figure-requires-2 c κs = (omega (arith, figure-room _ _ (c .before .before .before .before .put-figure .ensures)), omega arith)
+put-figure-requires-2 c κs = (omega (arith, ends-within (figure-short _ _) (c .before .before .before .before .put-figure .ensures)), omega arith)
 
 slice-aggregate-put-figure-3 : tie.Need-slice-aggregate-put-figure-3
 slice-aggregate-put-figure-3 c = search needs
 
 put-figure-requires-3 : tie.Need-put-figure-requires-3
-put-figure-requires-3 c κs = (omega (arith, figure-room _ _ (c .before .before .before .before .put-figure2 .ensures), figure-room _ _ (c .before .before .before .before .before .before .before .before .before .put-figure .ensures)), omega arith)
+put-figure-requires-3 c κs = (omega (arith, ends-within (figure-short _ _) (c .before .before .before .before .put-figure2 .ensures), ends-within (figure-short _ _) (c .before .before .before .before .before .before .before .before .before .put-figure .ensures)), omega arith)
 
 slice-aggregate-put-bytes : tie.Need-slice-aggregate-put-bytes
 slice-aggregate-put-bytes c = search needs
 
 put-bytes-requires : tie.Need-put-bytes-requires
-put-bytes-requires c κs = (omega (arith, figure-room _ _ (c .before .before .before .before .put-figure3 .ensures), figure-room _ _ (c .before .before .before .before .before .before .before .before .before .put-figure2 .ensures), figure-room _ _ (c .before .before .before .before .before .before .before .before .before .before .before .before .before .before .put-figure .ensures)), omega arith)
+put-bytes-requires c κs = (omega (arith, ends-within (figure-short _ _) (c .before .before .before .before .put-figure3 .ensures), ends-within (figure-short _ _) (c .before .before .before .before .before .before .before .before .before .put-figure2 .ensures), ends-within (figure-short _ _) (c .before .before .before .before .before .before .before .before .before .before .before .before .before .before .put-figure .ensures)), omega arith)
 
 put-number-requires : tie.Need-put-number-requires
-put-number-requires c κs = omega (arith, bytes-room (c .before .before .before .put-bytes .ensures), figure-room _ _ (c .before .before .before .before .before .before .before .before .put-figure3 .ensures), figure-room _ _ (c .before .before .before .before .before .before .before .before .before .before .before .before .before .put-figure2 .ensures), figure-room _ _ (c .before .before .before .before .before .before .before .before .before .before .before .before .before .before .before .before .before .before .put-figure .ensures))
+put-number-requires c κs = omega (arith, c .before .before .before .put-bytes .ensures .after, ends-within (figure-short _ _) (c .before .before .before .before .before .before .before .before .put-figure3 .ensures), ends-within (figure-short _ _) (c .before .before .before .before .before .before .before .before .before .before .before .before .before .put-figure2 .ensures), ends-within (figure-short _ _) (c .before .before .before .before .before .before .before .before .before .before .before .before .before .before .before .before .before .before .put-figure .ensures))
 
 same-length : tie.Need-same-length
 same-length c = search needs

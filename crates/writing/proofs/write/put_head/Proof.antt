@@ -1,7 +1,7 @@
 -- `writing::put_head` meets its contract.
 -- Assumes nothing.
 use native.Mathlib.Omega.{arith}
-use Rattle.writing.proofs.Puttings.{bytes-room, puts-head}
+use Rattle.writing.proofs.Puttings.{puts-head}
 use borrow.Author.Needs.{needs}
 use Rattle.writing.proofs.write.put_head.Statement.{statement}
 use Rattle.writing.proofs.write.put_head.Tie as tie
@@ -13,7 +13,7 @@ put-bytes-requires : tie.Need-put-bytes-requires
 put-bytes-requires c κs = (omega arith, omega arith)
 
 put-comment-requires : tie.Need-put-comment-requires
-put-comment-requires c κs = omega (arith, bytes-room (c .before .before .before .put-bytes .ensures))
+put-comment-requires c κs = omega (arith, c .before .before .before .put-bytes .ensures .after)
 
 same-length : tie.Need-same-length
 same-length c = search needs

@@ -1,7 +1,8 @@
 -- `writing::put_number` meets its contract.
 -- Assumes nothing.
 use native.Mathlib.Omega.{arith}
-use Rattle.writing.proofs.Puttings.{decimals-room, puts-number}
+use Rattle.writing.proofs.Decimals.{decimals-short}
+use Rattle.writing.proofs.Puttings.{ends-within, puts-number}
 use borrow.Author.Needs.{needs}
 use Rattle.writing.proofs.write.put_number.Statement.{statement}
 use Rattle.writing.proofs.write.put_number.Tie as tie
@@ -13,7 +14,7 @@ put-requires : tie.Need-put-requires
 put-requires c κs = search needs
 
 add-result : tie.Need-add-result
-add-result c = omega (arith, decimals-room _ (c .before .before .before .before .before .before .put-decimal .ensures))
+add-result c = omega (arith, ends-within (decimals-short 20 _) (c .before .before .before .before .before .before .put-decimal .ensures))
 
 same-length : tie.Need-same-length
 same-length c = search needs

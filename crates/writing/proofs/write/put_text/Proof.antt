@@ -1,7 +1,7 @@
 -- `writing::put_text` meets its contract.
 -- Assumes nothing.
 use native.Mathlib.Omega.{arith}
-use Rattle.writing.proofs.Puttings.{head-room, puts-text}
+use Rattle.writing.proofs.Puttings.{ends-within, head-short, puts-text}
 use borrow.Author.Needs.{needs}
 use Rattle.writing.proofs.write.put_text.Statement.{statement}
 use Rattle.writing.proofs.write.put_text.Tie as tie
@@ -10,7 +10,7 @@ put-head-requires : tie.Need-put-head-requires
 put-head-requires c κs = search needs
 
 put-body-requires : tie.Need-put-body-requires
-put-body-requires c κs = omega (arith, head-room _ (c .before .before .before .put-head .ensures))
+put-body-requires c κs = omega (arith, ends-within (head-short _) (c .before .before .before .put-head .ensures))
 
 same-length : tie.Need-same-length
 same-length c = search needs

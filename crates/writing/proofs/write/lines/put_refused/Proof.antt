@@ -1,7 +1,7 @@
 -- `writing::write::lines::put_refused` meets its contract.
 -- Assumes nothing.
 use native.Mathlib.Omega.{arith}
-use Rattle.writing.proofs.Puttings.{bytes-room, figure-room}
+use Rattle.writing.proofs.Puttings.{ends-within, figure-short}
 use Rattle.writing.proofs.Lines.{puts-refused}
 use borrow.Author.Needs.{needs}
 use Rattle.writing.proofs.write.lines.put_refused.Statement.{statement}
@@ -20,10 +20,10 @@ slice-aggregate-put-bytes : tie.Need-slice-aggregate-put-bytes
 slice-aggregate-put-bytes c = search needs
 
 put-bytes-requires : tie.Need-put-bytes-requires
-put-bytes-requires c κs = (omega (arith, figure-room _ _ (c .before .before .before .before .put-figure .ensures)), omega arith)
+put-bytes-requires c κs = (omega (arith, ends-within (figure-short _ _) (c .before .before .before .before .put-figure .ensures)), omega arith)
 
 put-number-requires : tie.Need-put-number-requires
-put-number-requires c κs = omega (arith, bytes-room (c .before .before .before .put-bytes .ensures), figure-room _ _ (c .before .before .before .before .before .before .before .before .put-figure .ensures))
+put-number-requires c κs = omega (arith, c .before .before .before .put-bytes .ensures .after, ends-within (figure-short _ _) (c .before .before .before .before .before .before .before .before .put-figure .ensures))
 
 same-length : tie.Need-same-length
 same-length c = search needs
