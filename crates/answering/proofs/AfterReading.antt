@@ -11,7 +11,6 @@ use Rattle.counting.proofs.Joined.{pick-false}
 use Rattle.model.specs.declared.Word.the-variants.{ShortBuffer, Cap, Budget}
 use Rattle.model.specs.declared.Verdict.{Verdict}
 use Rattle.model.specs.declared.Verdict.the-variants.{Accepted, Refused}
-use Rattle.model.specs.declared.CapAnswer.{CapAnswer}
 use Rattle.model.specs.declared.Search.{Search}
 use Rattle.model.specs.declared.RunAnswer.{RunAnswer}
 use Rattle.model.specs.declared.ShowAnswer.{ShowAnswer}
@@ -35,10 +34,10 @@ use Rattle.writing.specs.Writing.{lengthAnswer, answerWritten, writeCall}
 use Rattle.readback.proofs.Accepted.{fine-split}
 use Rattle.readback.proofs.Short.{text-short}
 use Rattle.readback.proofs.AnyText.{read-list-fine, read-writes}
-use Rattle.answering.specs.Answer.{listRoom, partsRoom, gives-refusal, afterWriting, printedAs, figuresOf, afterShowing, searchAnswer, afterRun, ranAnswer, afterOpening, openedAnswer, afterCap, patternAnswer}
+use Rattle.answering.specs.Answer.{listRoom, partsRoom, gives-refusal, afterWriting, printedAs, figuresOf, afterShowing, searchAnswer, afterRun, ranAnswer, afterCap, patternAnswer}
 use Rattle.answering.specs.Printing.{outputRoom}
 use Rattle.answering.specs.Refusing.{NoRefusal, split, none-yet}
-use Rattle.answering.proofs.SameNonzeros.{text-read}
+use Rattle.answering.proofs.Steps.{opened-run, capped-opened, capped-refused, text-read}
 
 -- a text that is read, after a first line that is right
 module _ (text : List ℕ) (percent budget : ℕ) (accepted : readVerdict text listRoom partsRoom ≡ Accepted) where
@@ -65,12 +64,11 @@ module _ (text : List ℕ) (percent budget : ℕ) (accepted : readVerdict text l
   few = list-accepted m n nonzeros list listed .size-to
 
   after-cap : patternAnswer text percent budget ≡ afterCap (capCall nonzeros percent) m n nonzeros list budget
-  after-cap = text-read text m n nonzeros _ percent budget read-is
+  after-cap = text-read text percent budget m n nonzeros _ read-is
 
   -- E out of its range is refused 11
   pub percent-refused : percentLimit < percent → patternAnswer text percent budget ≡ gives-refusal Cap 0
-  unfolding afterCap
-  percent-refused high = after-cap ∙ ap (λ (a : CapAnswer). afterCap a m n nonzeros list budget) (cap-refused nonzeros percent few high)
+  percent-refused high = after-cap ∙ capped-refused m n nonzeros list budget Cap 0 (cap-refused nonzeros percent few high)
 
   -- with E in its range the search opens
   module _ (low : percent ≤ percentLimit) where
@@ -87,11 +85,11 @@ module _ (text : List ℕ) (percent budget : ℕ) (accepted : readVerdict text l
     After = Run m n nonzeros list cap budget capped .search
 
     after-run : patternAnswer text percent budget ≡ afterRun rest m n nonzeros list (Run m n nonzeros list cap budget capped .answer) After
-    unfolding afterCap openedAnswer openCall afterOpening ranAnswer
+    unfolding openCall ranAnswer
     after-run =
         after-cap
-        ∙ ap (λ (a : CapAnswer). afterCap a m n nonzeros list budget) (cap-given nonzeros percent few low)
-        ∙ ap (λ (v : Verdict). afterOpening rest m n nonzeros list v (openCall m n nonzeros list cap .search) budget) capped
+        ∙ capped-opened m n nonzeros list budget cap rest (cap-given nonzeros percent few low)
+        ∙ opened-run (openCall m n nonzeros list cap) (openCall m n nonzeros list cap) rest m n nonzeros list budget refl capped
 
     -- B out of its range is refused 13
     pub budget-refused : budgetLimit < budget → patternAnswer text percent budget ≡ gives-refusal Budget 0

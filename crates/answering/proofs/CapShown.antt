@@ -5,8 +5,7 @@ use mathlib.Core.List.{List}
 use mathlib.Core.Path.{_≡_, refl, sym, _∙_, subst}
 use Prim.Native.Nat.{ℕ}
 use lib.ListN.{drop}
-use Rattle.counting.proofs.Joined.{by-test, pick-true, pick-false}
-use Rattle.model.specs.declared.Word.the-variants.{EntryForm}
+use Rattle.counting.proofs.Joined.{by-test}
 use Rattle.model.specs.declared.Verdict.{Verdict}
 use Rattle.model.specs.declared.Verdict.the-variants.{Accepted, Refused}
 use Rattle.model.specs.declared.CapAnswer.{CapAnswer}
@@ -23,9 +22,9 @@ use Rattle.search.proofs.OneRun.{run-cap}
 use Rattle.texts.specs.declared.ReadAnswer.the-variants as read-answer
 use Rattle.texts.specs.Reading.{readCall, readList}
 use Rattle.answering.specs.FirstLine.{commandOf}
-use Rattle.answering.specs.Answer.{listRoom, partsRoom, Answer, gives-refusal, figuresOf, afterShowing, searchAnswer, afterRun, ranAnswer, afterOpening, openedAnswer, afterCap, patternAnswer, answerTo}
+use Rattle.answering.specs.Answer.{listRoom, partsRoom, Answer, figuresOf, afterShowing, searchAnswer, afterRun, ranAnswer, afterOpening, openedAnswer, afterCap, answerTo}
 use Rattle.answering.specs.CapShown.{ShowsCap}
-use Rattle.answering.proofs.SameNonzeros.{text-read}
+use Rattle.answering.proofs.Steps.{text-read, line-right, line-wrong}
 
 module _ (m n nonzeros : ℕ) (list : List ℕ) (percent budget : ℕ) where
   -- after a run of a search with this cap
@@ -61,15 +60,13 @@ pub cap-shown :
     (input : List ℕ) (m n nonzeros : ℕ) (integer : Bool) →
     readCall (drop (commandOf input .next) input) listRoom partsRoom ≡ read-answer.Read m n nonzeros integer →
     ShowsCap nonzeros (commandOf input .percent) (answerTo input)
-unfolding answerTo
 cap-shown input m n nonzeros integer e =
     let o = commandOf input in
     let text = drop (o .next) input in
-    let answer = patternAnswer text (o .percent) (o .budget) in
     let shows : Answer → Type 0 = ShowsCap nonzeros (o .percent) in
     by-test
     (o .fine)
     (λ right. subst shows
-    (sym (pick-true answer (gives-refusal EntryForm 0) right ∙ text-read text m n nonzeros integer (o .percent) (o .budget) e))
+    (sym (line-right input right ∙ text-read text (o .percent) (o .budget) m n nonzeros integer e))
     (capped-so m n nonzeros (readList text listRoom partsRoom) (o .percent) (o .budget) (capCall nonzeros (o .percent)) refl))
-    (λ wrong. subst shows (sym (pick-false answer (gives-refusal EntryForm 0) wrong)) tt)
+    (λ wrong. subst shows (sym (line-wrong input wrong)) tt)

@@ -20,16 +20,16 @@ use Rattle.scanning.specs.declared.Stretch.the-variants.{Digits}
 use Rattle.scanning.specs.Classes.{classOf, stretchesOver, cased, digitOf}
 use Rattle.scanning.specs.Lines.{past, stretchesAt, stretchEnd}
 use Rattle.scanning.specs.Words.{spells, sameWord, isNumber, valueOf, numberValue}
-use Rattle.texts.specs.declared.ReadAnswer.{ReadAnswer}
 use Rattle.texts.specs.declared.ReadAnswer.the-variants as read-answer
 use Rattle.texts.specs.Header.{textLimit, headVerdict}
-use Rattle.texts.specs.Reading.{answerRead, textVerdict, readVerdict, readCall, readList}
+use Rattle.texts.specs.Reading.{answerRead, textVerdict, readVerdict, readCall}
 use Rattle.answering.specs.declared.Command.{Command}
 use Rattle.answering.specs.FirstLine.{#percent, #budget, commandOf}
-use Rattle.answering.specs.Answer.{listRoom, partsRoom, Answer, gives-refusal, printedAs, afterReading, patternAnswer, answerTo, answerText}
+use Rattle.answering.specs.Answer.{listRoom, partsRoom, Answer, gives-refusal, printedAs, patternAnswer, answerTo, answerText}
 use Rattle.answering.specs.Printing.{inputRoom}
 use Rattle.scanning.proofs.Scans.{stretch-after}
 use Rattle.answering.proofs.FirstLine.{stretch-within}
+use Rattle.answering.proofs.Steps.{text-refused}
 
 -- two inputs have the same first 64 bytes
 abbrev Alike : List ℕ → List ℕ → Type 0
@@ -110,11 +110,6 @@ over-refused : (text : List ℕ) → textLimit < length text → readCall text l
 unfolding readCall readVerdict textVerdict headVerdict answerRead _then_
 over-refused text h = rw (refuse-so {test = ltb textLimit (length text)} TooBig 0 (lt-ltb textLimit (length text) h))
 
-over-text : (text : List ℕ) (percent budget : ℕ) → textLimit < length text → patternAnswer text percent budget ≡ gives-refusal TooBig 0
-unfolding patternAnswer afterReading
-over-text text percent budget h =
-    ap (λ (x : ReadAnswer). afterReading x (readList text listRoom partsRoom) percent budget) (over-refused text h)
-
 module _ (input : List ℕ) where
   first-bytes : Alike (take inputRoom input) input
   first-bytes i l = getD-take inputRoom input i 0 (omega arith)
@@ -133,8 +128,8 @@ module _ (input : List ℕ) where
       (command-same first input first-bytes)
       ∙ ap
       (λ (a : Answer). pick (o .fine) a (gives-refusal EntryForm 0))
-      (over-text (drop (o .next) first) (o .percent) (o .budget) short
-      ∙ sym (over-text (drop (o .next) input) (o .percent) (o .budget) long))
+      (text-refused (drop (o .next) first) (o .percent) (o .budget) TooBig 0 (over-refused _ short)
+      ∙ sym (text-refused (drop (o .next) input) (o .percent) (o .budget) TooBig 0 (over-refused _ long)))
 
   -- the answer to what is read of an input is the answer to the input
   answer-same : answerTo (take inputRoom input) ≡ answerTo input

@@ -10,7 +10,7 @@ use lib.Dec.{ltb}
 use lib.ListN.{length, drop}
 use borrow.Author.Tests.{ltb-true, ltb-false, not-true, not-false}
 use Rattle.counting.specs.Tests.{_or_}
-use Rattle.counting.proofs.Joined.{no-way, pick-true, pick-false}
+use Rattle.counting.proofs.Joined.{no-way}
 use Rattle.model.specs.declared.Word.{Word}
 use Rattle.model.specs.declared.Word.the-variants.{EntryForm, Cap, Budget}
 use Rattle.model.specs.declared.Verdict.{Verdict}
@@ -19,70 +19,62 @@ use Rattle.model.specs.Limits.{percentLimit, budgetLimit}
 use Rattle.model.specs.Refusal.{refusalNumber, refuse, _then_}
 use Rattle.model.proofs.Theorems.Checks.{then-assoc}
 use Rattle.model.proofs.Theorems.Spared.{refuse-spares, _also_, between-spared, forCap, wordForCap}
+use Rattle.texts.specs.declared.ReadAnswer.the-variants as read-answer
 use Rattle.texts.specs.Header.{headerOf}
-use Rattle.texts.specs.Reading.{nonzerosIn, answerRead, readVerdict, cellsOf, readCall, readList}
-use Rattle.writing.specs.Lines.{refusedText}
+use Rattle.texts.specs.Reading.{nonzerosIn, answerRead, readVerdict, cellsOf, readCall}
 use Rattle.readback.proofs.Spared.{read-spares}
 use Rattle.answering.specs.FirstLine.{commandOf}
-use Rattle.answering.specs.Answer.{listRoom, partsRoom, Answer, gives-refusal, printedAs, afterReading, patternAnswer, answerTo, answerText}
+use Rattle.answering.specs.Answer.{listRoom, partsRoom, Answer, printedAs, patternAnswer, answerTo, answerText}
 use Rattle.answering.specs.Printing.{outputRoom}
 use Rattle.answering.specs.Refusing.{patternVerdict, splitVerdict, refusalIn, Tells}
+use Rattle.answering.proofs.Steps.{refusal-printed, text-refused, line-right, line-wrong}
 use Rattle.answering.proofs.Telling.{tells-then, tells-check, tells-last, tells-number}
 use Rattle.answering.proofs.AfterReading.{percent-refused, budget-refused, text-answered}
 
 -- a text that is refused
-text-refused :
-    (text : List ℕ) (percent budget : ℕ) (word : Word) (place : ℕ) → readVerdict text listRoom partsRoom ≡ Refused word place →
-    patternAnswer text percent budget ≡ gives-refusal word place
-unfolding patternAnswer readCall answerRead afterReading
-text-refused text percent budget word place e =
-    ap
-    (λ (v : Verdict). afterReading (answerRead v (headerOf text) (nonzerosIn (headerOf text) (cellsOf text))) (readList text listRoom partsRoom) percent budget)
-    e
+read-refused :
+    (text : List ℕ) (word : Word) (place : ℕ) → readVerdict text listRoom partsRoom ≡ Refused word place →
+    readCall text listRoom partsRoom ≡ read-answer.Refused word place
+unfolding readCall answerRead
+read-refused text word place e = ap (λ (v : Verdict). answerRead v (headerOf text) (nonzerosIn (headerOf text) (cellsOf text))) e
 
-module _ (out : List ℕ) where
-  refusal-printed : {a : Answer} {word : Word} {place : ℕ} → a ≡ gives-refusal word place → printedAs a out ≡ refusedText word place
-  unfolding printedAs
-  refusal-printed e = ap (λ (x : Answer). printedAs x out) e
+module _ (out : List ℕ) (room : outputRoom ≤ length out) where
+  -- what follows the first line
+  text-tells : (text : List ℕ) (percent budget : ℕ) → Tells (patternVerdict text percent budget) (printedAs (patternAnswer text percent budget) out)
+  unfolding patternVerdict
+  text-tells text percent budget =
+      tells-then
+      (readVerdict text listRoom partsRoom)
+      _
+      (λ word place e. refusal-printed out (text-refused text percent budget word place (read-refused text word place e)))
+      (λ read. tells-check
+      (ltb percentLimit percent)
+      Cap
+      0
+      _
+      (λ high. refusal-printed out (percent-refused text percent budget read (ltb-true percentLimit percent high)))
+      (λ low. tells-last
+      (ltb budgetLimit budget)
+      Budget
+      0
+      (λ over. refusal-printed out (budget-refused text percent budget read (ltb-false percentLimit percent low) (ltb-true budgetLimit budget over)))
+      (λ within. text-answered text percent budget read (ltb-false percentLimit percent low) (ltb-false budgetLimit budget within) out room)))
 
-  module _ (room : outputRoom ≤ length out) where
-    -- what follows the first line
-    text-tells : (text : List ℕ) (percent budget : ℕ) → Tells (patternVerdict text percent budget) (printedAs (patternAnswer text percent budget) out)
-    unfolding patternVerdict
-    text-tells text percent budget =
-        tells-then
-        (readVerdict text listRoom partsRoom)
-        _
-        (λ word place e. refusal-printed (text-refused text percent budget word place e))
-        (λ read. tells-check
-        (ltb percentLimit percent)
-        Cap
-        0
-        _
-        (λ high. refusal-printed (percent-refused text percent budget read (ltb-true percentLimit percent high)))
-        (λ low. tells-last
-        (ltb budgetLimit budget)
-        Budget
-        0
-        (λ over. refusal-printed (budget-refused text percent budget read (ltb-false percentLimit percent low) (ltb-true budgetLimit budget over)))
-        (λ within. text-answered text percent budget read (ltb-false percentLimit percent low) (ltb-false budgetLimit budget within) out room)))
-
-    answer-tells : (input : List ℕ) → Tells (splitVerdict input) (printedAs (answerTo input) out)
-    unfolding splitVerdict answerTo
-    answer-tells input =
-        let o = commandOf input in
-        let text = drop (o .next) input in
-        let answer = patternAnswer text (o .percent) (o .budget) in
-        tells-check
-        (not (o .fine))
-        EntryForm
-        0
-        _
-        (λ wrong. refusal-printed (pick-false answer (gives-refusal EntryForm 0) (not-true (o .fine) wrong)))
-        (λ right. subst
-        (λ (a : Answer). Tells (patternVerdict text (o .percent) (o .budget)) (printedAs a out))
-        (sym (pick-true answer (gives-refusal EntryForm 0) (not-false (o .fine) right)))
-        (text-tells text (o .percent) (o .budget)))
+  answer-tells : (input : List ℕ) → Tells (splitVerdict input) (printedAs (answerTo input) out)
+  unfolding splitVerdict
+  answer-tells input =
+      let o = commandOf input in
+      let text = drop (o .next) input in
+      tells-check
+      (not (o .fine))
+      EntryForm
+      0
+      _
+      (λ wrong. refusal-printed out (line-wrong input (not-true (o .fine) wrong)))
+      (λ right. subst
+      (λ (a : Answer). Tells (patternVerdict text (o .percent) (o .budget)) (printedAs a out))
+      (sym (line-right input (not-false (o .fine) right)))
+      (text-tells text (o .percent) (o .budget)))
 
 -- the program refuses what its checks refuse, and nothing else
 pub split-refuses : (input out : List ℕ) → outputRoom ≤ length out → Tells (splitVerdict input) (answerText input out)

@@ -2,24 +2,14 @@
 -- Assumes nothing.
 use mathlib.Core.Bool.{Bool}
 use mathlib.Core.List.{List}
-use mathlib.Core.Path.{_≡_, sym, _∙_, ap}
+use mathlib.Core.Path.{_≡_, sym, _∙_}
 use Prim.Native.Nat.{ℕ}
-use Rattle.model.specs.Calls.{capCall}
-use Rattle.texts.specs.declared.ReadAnswer.{ReadAnswer}
 use Rattle.texts.specs.declared.ReadAnswer.the-variants as read-answer
-use Rattle.texts.specs.Reading.{readCall, readList}
+use Rattle.texts.specs.Reading.{readCall}
 use Rattle.readback.specs.TextSays.{SameNonzeros}
 use Rattle.readback.proofs.SameNonzeros.{sizes-same, list-same}
-use Rattle.answering.specs.Answer.{listRoom, partsRoom, afterCap, afterReading, patternAnswer}
-
--- what follows a text that is read is by its sizes and its list
-pub text-read :
-    (text : List ℕ) (m n nonzeros : ℕ) (integer : Bool) (percent budget : ℕ) →
-    readCall text listRoom partsRoom ≡ read-answer.Read m n nonzeros integer →
-    patternAnswer text percent budget ≡ afterCap (capCall nonzeros percent) m n nonzeros (readList text listRoom partsRoom) budget
-unfolding patternAnswer afterReading
-text-read text m n nonzeros integer percent budget e =
-    ap (λ (x : ReadAnswer). afterReading x (readList text listRoom partsRoom) percent budget) e
+use Rattle.answering.specs.Answer.{listRoom, partsRoom, patternAnswer}
+use Rattle.answering.proofs.Steps.{text-read}
 
 pub same-answer :
     (one other : List ℕ) (m n nonzeros m′ n′ nonzeros′ : ℕ) (integer integer′ : Bool) (percent budget : ℕ) → SameNonzeros one other →
@@ -28,7 +18,7 @@ pub same-answer :
     patternAnswer one percent budget ≡ patternAnswer other percent budget
 same-answer one other m n nonzeros m′ n′ nonzeros′ integer integer′ percent budget alike e f =
     let sizes = sizes-same one other listRoom partsRoom alike e f in
-    text-read one m n nonzeros integer percent budget e
+    text-read one percent budget m n nonzeros integer e
     ∙ rw
     (sizes .0, sizes .1, sizes .2, list-same one other listRoom partsRoom alike e f)
-    (sym (text-read other m′ n′ nonzeros′ integer′ percent budget f))
+    (sym (text-read other percent budget m′ n′ nonzeros′ integer′ f))

@@ -40,23 +40,24 @@ use Rattle.writing.specs.declared.WriteAnswer.{WriteAnswer}
 use Rattle.writing.specs.declared.WriteAnswer.the-variants as write-answer
 use Rattle.writing.specs.Written.{Puts, textOf}
 use Rattle.writing.specs.Writing.{writeCall, writeOut}
-use Rattle.writing.specs.Lines.{refusedText, noneText}
+use Rattle.writing.specs.Lines.{refusedText}
 use Rattle.writing.proofs.Puttings.{puts-none, puts-as}
 use Rattle.writing.proofs.Answers.{write-puts, write-keeps}
 use Rattle.answering.specs.declared.Command.{Command}
 use Rattle.answering.specs.FirstLine.{commandOf}
 use Rattle.answering.specs.Answer.{listRoom, partsRoom, Answer, gives-split, gives-refusal, afterWriting, printedAs, lineText, figuresOf, afterShowing, searchAnswer, afterRun, ranAnswer, afterOpening, openedAnswer, afterCap, afterReading, patternAnswer, answerTo}
 
--- an answer printed is printed as any that equals it
-module _ {out new : List ℕ} {r : ℕ} {answer : Answer} where
-  pub prints-answer : {same : Answer} → same ≡ answer → Puts out 0 (printedAs same out) new r → Puts out 0 (printedAs answer out) new r
-  prints-answer e p = puts-as (ap (λ (a : Answer). printedAs a out) e) p
+-- an answer is printed as one that it equals
+pub refusal-printed : {answer : Answer} {word : Word} {place : ℕ} (out : List ℕ) → answer ≡ gives-refusal word place → printedAs answer out ≡ refusedText word place
+unfolding printedAs
+refusal-printed out e = ap (λ (a : Answer). printedAs a out) e
 
-  pub prints-refusal :
-      (word : Word) (place : ℕ) → gives-refusal word place ≡ answer → Puts out 0 (refusedText word place) new r →
-      Puts out 0 (printedAs answer out) new r
-  unfolding printedAs
-  prints-refusal word place e p = prints-answer {same = gives-refusal word place} e p
+module _ {answer : Answer} {out new : List ℕ} {r : ℕ} where
+  pub prints-answer : {same : Answer} → answer ≡ same → Puts out 0 (printedAs same out) new r → Puts out 0 (printedAs answer out) new r
+  prints-answer e p = puts-as (ap (λ (a : Answer). printedAs a out) (sym e)) p
+
+  pub prints-refusal : {word : Word} {place : ℕ} → answer ≡ gives-refusal word place → Puts out 0 (refusedText word place) new r → Puts out 0 (printedAs answer out) new r
+  prints-refusal e p = puts-as (sym (refusal-printed out e)) p
 
 -- a byte other than 0 stands inside
 byte-inside : (l : List ℕ) (i b : ℕ) → b ≡ getD l i 0 → b ≡ 10 → i < length l
@@ -83,17 +84,9 @@ module _ (cap rest tries : ℕ) where
   pub line-split : (a : ShowAnswer) (out : List ℕ) → tagOf (declared show-enum) a ≡ 0 → Puts out 0 (lineText a cap rest tries) out 0
   line-split a out h = puts-as (no-line a h) (puts-none out 0)
 
-  pub line-none :
-      {a : ShowAnswer} {out new : List ℕ} {r : ℕ} (floor : ℕ) → a ≡ show-answer.NoneYet floor →
-      Puts out 0 (noneText cap rest tries floor) new r → Puts out 0 (lineText a cap rest tries) new r
-  unfolding lineText
-  line-none floor e p = puts-as (ap (λ (x : ShowAnswer). lineText x cap rest tries) (sym e)) p
-
-  pub line-refused :
-      {a : ShowAnswer} {out new : List ℕ} {r : ℕ} (word : Word) (place : ℕ) → a ≡ show-answer.Refused word place →
-      Puts out 0 (refusedText word place) new r → Puts out 0 (lineText a cap rest tries) new r
-  unfolding lineText
-  line-refused word place e p = puts-as (ap (λ (x : ShowAnswer). lineText x cap rest tries) (sym e)) p
+  pub line-as :
+      {a x : ShowAnswer} {out new : List ℕ} {r : ℕ} → a ≡ x → Puts out 0 (lineText x cap rest tries) new r → Puts out 0 (lineText a cap rest tries) new r
+  line-as e p = puts-as (ap (λ (y : ShowAnswer). lineText y cap rest tries) (sym e)) p
 
 -- a split written, or the writer's refusal
 module _ (m n nonzeros : ℕ) (list parts : List ℕ) (f : Figures) (out : List ℕ) (w : WriteAnswer)
@@ -128,7 +121,7 @@ module _ (m n nonzeros : ℕ) (list parts : List ℕ) (f : Figures) (out : List 
 -- a showing: the line, or the split
 module _ (s : Search) (rest m n nonzeros : ℕ) (list parts : List ℕ) (a : ShowAnswer)
     (called : a ≡ showCall s m n nonzeros list partsRoom) (given : parts ≡ showParts s m n nonzeros list partsRoom) where
-  search-shown : afterShowing rest m n nonzeros list a s parts ≡ searchAnswer rest m n nonzeros list s
+  search-shown : searchAnswer rest m n nonzeros list s ≡ afterShowing rest m n nonzeros list a s parts
   unfolding searchAnswer
   search-shown = rw (called, given)
 
@@ -147,107 +140,114 @@ module _ (s : Search) (rest m n nonzeros : ℕ) (list parts : List ℕ) (a : Sho
 
   pub shown-split :
       (volume floor : ℕ) (f : Figures) → a ≡ show-answer.Split volume floor → f ≡ figuresOf s rest volume floor →
-      gives-split m n nonzeros list parts f ≡ searchAnswer rest m n nonzeros list s
+      searchAnswer rest m n nonzeros list s ≡ gives-split m n nonzeros list parts f
   unfolding afterShowing
   shown-split volume floor f h figures =
-      ap (gives-split m n nonzeros list parts) figures
-      ∙ ap (λ (x : ShowAnswer). afterShowing rest m n nonzeros list x s parts) (sym h)
-      ∙ search-shown
+      search-shown
+      ∙ ap (λ (x : ShowAnswer). afterShowing rest m n nonzeros list x s parts) h
+      ∙ ap (gives-split m n nonzeros list parts) (sym figures)
 
--- what a run answered
+-- a run, by what it answered
 module _ (ran call : Ran) (rest m n nonzeros : ℕ) (list : List ℕ) (called : ran ≡ call) where
+  ran-so : ranAnswer rest m n nonzeros list call ≡ afterRun rest m n nonzeros list (ran .answer) (ran .search)
+  unfolding ranAnswer
+  ran-so = rw called
+
   run-shown :
       (a : RunAnswer) → (tagOf (declared run-enum) a ≡ 0) ⊎ (tagOf (declared run-enum) a ≡ 1) →
-      searchAnswer rest m n nonzeros list (ran .search) ≡ afterRun rest m n nonzeros list a (ran .search)
+      afterRun rest m n nonzeros list a (ran .search) ≡ searchAnswer rest m n nonzeros list (ran .search)
   unfolding afterRun
   run-shown run-answer.Complete h = refl
   run-shown run-answer.Stopped h = refl
   run-shown (run-answer.Refused word place) h = ⊎-elim (λ e. no-way (omega arith)) (λ e. no-way (omega arith)) h
 
-  ran-so : afterRun rest m n nonzeros list (ran .answer) (ran .search) ≡ ranAnswer rest m n nonzeros list call
-  unfolding ranAnswer
-  ran-so = rw called
-
   pub ran-shown :
       (tagOf (declared run-enum) (ran .answer) ≡ 0) ⊎ (tagOf (declared run-enum) (ran .answer) ≡ 1) →
-      searchAnswer rest m n nonzeros list (ran .search) ≡ ranAnswer rest m n nonzeros list call
-  ran-shown h = run-shown (ran .answer) h ∙ ran-so
+      ranAnswer rest m n nonzeros list call ≡ searchAnswer rest m n nonzeros list (ran .search)
+  ran-shown h = ran-so ∙ run-shown (ran .answer) h
 
-  pub ran-refused : (word : Word) (place : ℕ) → ran .answer ≡ run-answer.Refused word place → gives-refusal word place ≡ ranAnswer rest m n nonzeros list call
+  pub ran-refused : (word : Word) (place : ℕ) → ran .answer ≡ run-answer.Refused word place → ranAnswer rest m n nonzeros list call ≡ gives-refusal word place
   unfolding afterRun
-  ran-refused word place e = ap (λ (a : RunAnswer). afterRun rest m n nonzeros list a (ran .search)) (sym e) ∙ ran-so
+  ran-refused word place e = ran-so ∙ ap (λ (a : RunAnswer). afterRun rest m n nonzeros list a (ran .search)) e
 
--- what an opening answered
+-- an opening, by what it answered
 module _ (opened call : Opened) (rest m n nonzeros : ℕ) (list : List ℕ) (budget : ℕ) (called : opened ≡ call) where
   opened-as :
-      (v : Verdict) → opened .verdict ≡ v → afterOpening rest m n nonzeros list v (opened .search) budget ≡ openedAnswer rest m n nonzeros list call budget
+      (v : Verdict) → opened .verdict ≡ v → openedAnswer rest m n nonzeros list call budget ≡ afterOpening rest m n nonzeros list v (opened .search) budget
   unfolding openedAnswer
-  opened-as v e = ap (λ (x : Verdict). afterOpening rest m n nonzeros list x (opened .search) budget) (sym e) ∙ rw called
+  opened-as v e = rw called (ap (λ (x : Verdict). afterOpening rest m n nonzeros list x (call .search) budget) (rw called at e))
 
   pub opened-run :
       opened .verdict ≡ Accepted →
-      ranAnswer rest m n nonzeros list (runCall (opened .search) m n nonzeros list budget) ≡ openedAnswer rest m n nonzeros list call budget
+      openedAnswer rest m n nonzeros list call budget ≡ ranAnswer rest m n nonzeros list (runCall (opened .search) m n nonzeros list budget)
   unfolding afterOpening
   opened-run e = opened-as Accepted e
 
-  pub opened-refused : (word : Word) (place : ℕ) → opened .verdict ≡ Refused word place → gives-refusal word place ≡ openedAnswer rest m n nonzeros list call budget
+  pub opened-refused : (word : Word) (place : ℕ) → opened .verdict ≡ Refused word place → openedAnswer rest m n nonzeros list call budget ≡ gives-refusal word place
   unfolding afterOpening
   opened-refused word place e = opened-as (Refused word place) e
 
--- what the cap from a percentage answered
-module _ (a call : CapAnswer) (m n nonzeros : ℕ) (list : List ℕ) (budget : ℕ) (called : a ≡ call) where
-  capped-as : (x : CapAnswer) → a ≡ x → afterCap x m n nonzeros list budget ≡ afterCap call m n nonzeros list budget
-  capped-as x e = ap (λ (y : CapAnswer). afterCap y m n nonzeros list budget) (sym e ∙ called)
-
+-- the cap from a percentage, by what it answered
+module _ {a : CapAnswer} (m n nonzeros : ℕ) (list : List ℕ) (budget : ℕ) where
   pub capped-opened :
       (cap rest : ℕ) → a ≡ cap-answer.Capped cap rest →
-      openedAnswer rest m n nonzeros list (openCall m n nonzeros list cap) budget ≡ afterCap call m n nonzeros list budget
+      afterCap a m n nonzeros list budget ≡ openedAnswer rest m n nonzeros list (openCall m n nonzeros list cap) budget
   unfolding afterCap
-  capped-opened cap rest e = capped-as (cap-answer.Capped cap rest) e
+  capped-opened cap rest e = ap (λ (x : CapAnswer). afterCap x m n nonzeros list budget) e
 
-  pub capped-refused : (word : Word) (place : ℕ) → a ≡ cap-answer.Refused word place → gives-refusal word place ≡ afterCap call m n nonzeros list budget
+  pub capped-refused : (word : Word) (place : ℕ) → a ≡ cap-answer.Refused word place → afterCap a m n nonzeros list budget ≡ gives-refusal word place
   unfolding afterCap
-  capped-refused word place e = capped-as (cap-answer.Refused word place) e
+  capped-refused word place e = ap (λ (x : CapAnswer). afterCap x m n nonzeros list budget) e
 
--- what a reading answered and gave
-module _ (text list : List ℕ) (percent budget : ℕ) (a : ReadAnswer) (e : a ≡ readCall text listRoom partsRoom) where
-  read-as : (x : ReadAnswer) → a ≡ x → afterReading x (readList text listRoom partsRoom) percent budget ≡ patternAnswer text percent budget
-  unfolding patternAnswer
-  read-as x h = ap (λ (y : ReadAnswer). afterReading y (readList text listRoom partsRoom) percent budget) (sym h ∙ e)
+-- a text, by what its reading answered
+module _ (text : List ℕ) (percent budget : ℕ) where
+  pub text-read :
+      (m n nonzeros : ℕ) (integer : Bool) → readCall text listRoom partsRoom ≡ read-answer.Read m n nonzeros integer →
+      patternAnswer text percent budget ≡ afterCap (capCall nonzeros percent) m n nonzeros (readList text listRoom partsRoom) budget
+  unfolding patternAnswer afterReading
+  text-read m n nonzeros integer e = ap (λ (x : ReadAnswer). afterReading x (readList text listRoom partsRoom) percent budget) e
 
-  pub read-capped :
-      (m n nonzeros : ℕ) (integer : Bool) → a ≡ read-answer.Read m n nonzeros integer → list ≡ readList text listRoom partsRoom →
-      afterCap (capCall nonzeros percent) m n nonzeros list budget ≡ patternAnswer text percent budget
-  unfolding afterReading
-  read-capped m n nonzeros integer h given =
-      ap (λ (l : List ℕ). afterCap (capCall nonzeros percent) m n nonzeros l budget) given ∙ read-as (read-answer.Read m n nonzeros integer) h
+  pub text-refused :
+      (word : Word) (place : ℕ) → readCall text listRoom partsRoom ≡ read-answer.Refused word place → patternAnswer text percent budget ≡ gives-refusal word place
+  unfolding patternAnswer afterReading
+  text-refused word place e = ap (λ (x : ReadAnswer). afterReading x (readList text listRoom partsRoom) percent budget) e
 
-  pub read-refused : (word : Word) (place : ℕ) → a ≡ read-answer.Refused word place → gives-refusal word place ≡ patternAnswer text percent budget
-  unfolding afterReading
-  read-refused word place h = read-as (read-answer.Refused word place) h
+-- an input, by its first line
+module _ (input : List ℕ) where
+  abbrev command : Command
+  command = commandOf input
 
--- the command that the first line gives
-module _ (input : List ℕ) (o : Command) (e : o ≡ commandOf input) where
   abbrev text-answer : Answer
-  text-answer = patternAnswer (drop (commandOf input .next) input) (commandOf input .percent) (commandOf input .budget)
+  text-answer = patternAnswer (drop (command .next) input) (command .percent) (command .budget)
 
-  pub command-other : o .fine ≡ false → gives-refusal EntryForm 0 ≡ answerTo input
+  pub line-right : command .fine ≡ true → answerTo input ≡ text-answer
   unfolding answerTo
-  command-other h = sym (pick-false text-answer (gives-refusal EntryForm 0) (ap (λ (x : Command). x .fine) (sym e) ∙ h))
+  line-right h = pick-true text-answer (gives-refusal EntryForm 0) h
+
+  pub line-wrong : command .fine ≡ false → answerTo input ≡ gives-refusal EntryForm 0
+  unfolding answerTo
+  line-wrong h = pick-false text-answer (gives-refusal EntryForm 0) h
+
+-- the same by the command that was read off the first line
+module _ (input : List ℕ) (o : Command) (e : o ≡ commandOf input) where
+  as-read : {value : Bool} → o .fine ≡ value → commandOf input .fine ≡ value
+  as-read h = ap (λ (x : Command). x .fine) (sym e) ∙ h
+
+  pub command-other : o .fine ≡ false → answerTo input ≡ gives-refusal EntryForm 0
+  command-other h = line-wrong input (as-read h)
 
   pub command-text :
-      o .fine ≡ true → patternAnswer (take (length input - o .next) (drop (o .next) input)) (o .percent) (o .budget) ≡ answerTo input
-  unfolding answerTo
+      o .fine ≡ true → answerTo input ≡ patternAnswer (take (length input - o .next) (drop (o .next) input)) (o .percent) (o .budget)
   command-text h =
-      ap (λ (l : List ℕ). patternAnswer l (o .percent) (o .budget)) (part-to-end input (o .next))
-      ∙ ap (λ (x : Command). patternAnswer (drop (x .next) input) (x .percent) (x .budget)) e
-      ∙ sym (pick-true text-answer (gives-refusal EntryForm 0) (ap (λ (x : Command). x .fine) (sym e) ∙ h))
+      line-right input (as-read h)
+      ∙ ap (λ (x : Command). patternAnswer (drop (x .next) input) (x .percent) (x .budget)) (sym e)
+      ∙ ap (λ (l : List ℕ). patternAnswer l (o .percent) (o .budget)) (sym (part-to-end input (o .next)))
 
-  -- a fine command has its LF in the input
+  -- a line that is right has its LF in the input
   pub command-room : o .fine ≡ true → o .next ≤ length input
   unfolding commandOf
   command-room h =
       let end = stretchEnd Digits input (stretchEnd Digits input 8 18 + 8) (stretchEnd Digits input 8 18 + 8 + 10) in
-      let last = eqb-true (getD input end 0) 10 (and-right _ (eqb (getD input end 0) 10) (ap (λ (x : Command). x .fine) (sym e) ∙ h)) in
+      let last = eqb-true (getD input end 0) 10 (and-right _ (eqb (getD input end 0) 10) (as-read h)) in
       let inside = byte-inside input end (getD input end 0) refl last in
       omega (arith, ap (λ (x : Command). x .next) e, inside)

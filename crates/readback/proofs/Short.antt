@@ -2,9 +2,10 @@
 -- Assumes nothing.
 use mathlib.Core.List.{List, _++_}
 use mathlib.Core.Path.{ap}
-use Prim.Native.Nat.{ℕ, zero, suc, _+_, _*_, _≤_, _<_}
+use Prim.Native.Nat.{ℕ, zero, suc, _+_, _*_, _^_, _≤_, _<_}
 use native.Mathlib.Omega.{arith}
 use lib.ListN.{length, getD, length-append}
+use Rattle.model.specs.Limits.{nonzeroLimit}
 use Rattle.model.specs.Pattern.{rowIn, columnIn}
 use Rattle.writing.specs.declared.Figures.{Figures}
 use Rattle.writing.specs.Written.{sizesText, entryText, entriesText, headText, bodyText, textOf}
@@ -16,28 +17,26 @@ use Rattle.readback.proofs.Lines.{entries-none, entries-length}
 
 -- the most bytes of a written text: 193 of its first two lines, 13 of its size line, and ten of each entry
 abbrev pub writtenMost : ℕ
-writtenMost = 20_206
+writtenMost = 193 + 13 + 10 * nonzeroLimit
+
+-- a line of three numbers with so many digits at most: their digits, two spaces and LF
+line-short :
+    (i j k a b c : ℕ) → a < 10 ^ suc i → b < 10 ^ suc j → c < 10 ^ suc k →
+    length (sizesText a b c) ≤ suc i + suc j + suc k + 3
+line-short i j k a b c ha hb hc =
+    omega (arith, sizes-length 0 a b c, decimals-fit 20 i a ha, decimals-fit 20 j b hb, decimals-fit 20 k c hc)
 
 module _ {m n nonzeros : ℕ} {list parts : List ℕ} (split : Fine m n nonzeros list parts) where
-  -- an entry: three digits, a space, three digits, a space, a digit and LF at most
   entry-short : (t : ℕ) → t < nonzeros → length (entryText list parts t) ≤ 10
   unfolding entryText
   entry-short t l =
-      let a = rowIn list t + 1 in
-      let b = columnIn list t + 1 in
-      let c = getD parts t 0 + 1 in
-      let row = decimals-fit 20 2 a (omega (arith, split .rows, split .row-in t l)) in
-      let column = decimals-fit 20 2 b (omega (arith, split .columns, split .column-in t l)) in
-      let part = decimals-fit 20 0 c (omega (arith, split .part-in t l)) in
-      omega (arith, sizes-length 0 a b c)
+      line-short 2 2 0 (rowIn list t + 1) (columnIn list t + 1) (getD parts t 0 + 1)
+      (omega (arith, split .rows, split .row-in t l))
+      (omega (arith, split .columns, split .column-in t l))
+      (omega (arith, split .part-in t l))
 
-  -- the size line: twice three digits and a space, four digits and LF at most
   size-line-short : length (sizesText m n nonzeros) ≤ 13
-  size-line-short =
-      let rows = decimals-fit 20 2 m (omega (arith, split .rows)) in
-      let columns = decimals-fit 20 2 n (omega (arith, split .columns)) in
-      let size = decimals-fit 20 3 nonzeros (omega (arith, split .few)) in
-      omega (arith, sizes-length 0 m n nonzeros)
+  size-line-short = line-short 2 2 3 m n nonzeros (omega (arith, split .rows)) (omega (arith, split .columns)) (omega (arith, split .few))
 
   entries-short : (t : ℕ) → t ≤ nonzeros → length (entriesText list parts t) ≤ 10 * t
   entries-short zero b = omega (arith, ap length (entries-none list parts))

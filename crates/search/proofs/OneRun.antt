@@ -4,7 +4,7 @@
 use mathlib.Core.Bool.{true, not}
 use mathlib.Core.List.{List}
 use mathlib.Core.Path.{_≡_, refl, sym, _∙_, ap, subst}
-use Prim.Native.Nat.{ℕ, _≤_, _<_}
+use Prim.Native.Nat.{ℕ, _+_, _≤_, _<_}
 use native.Mathlib.Omega.{arith}
 use lib.ListN.{length, getD}
 use borrow.Author.Tests.{le-ltb}
@@ -95,12 +95,13 @@ module _ (m n nonzeros : ℕ) (list : List ℕ) (cap budget : ℕ) (opens : open
       at-start .run-is handed budget
       ∙ ap (λ (v : Verdict). ranAfter v (openCall m n nonzeros list cap .search) P budget) (runs ∙ sym e)
 
-  -- whatever the run answers, its search has the opening's cap
+  -- whatever the run answers, demand 3 holds after it
+  at-answer : Demand m n nonzeros list cap (Run .search) (0 + acceptedBudget (Run .answer) budget)
+  at-answer = demand-3 m n nonzeros list cap .throughout (ran start handed budget Run refl) .2
+
+  -- and the search has the opening's cap
   pub run-cap : Run .search .cap ≡ cap
-  run-cap =
-      ap (λ (s : Search). s .cap) (demand-3 m n nonzeros list cap .throughout (ran start handed budget Run refl) .2 .whole)
-      ∙ search-cap _
-      ∙ walked-cap m n nonzeros list cap opens _
+  run-cap = ap (λ (s : Search). s .cap) (at-answer .whole) ∙ search-cap _ ∙ walked-cap m n nonzeros list cap opens _
 
   -- a budget over its range is refused 13
   pub run-refused : budgetLimit < budget → Run .answer ≡ run-answer.Refused Budget 0
@@ -118,10 +119,7 @@ module _ (m n nonzeros : ℕ) (list : List ℕ) (cap budget : ℕ) (opens : open
 
     pub at-end : Demand m n nonzeros list cap (Run .search) budget
     at-end =
-        subst
-        (λ (total : ℕ). Demand m n nonzeros list cap (Run .search) total)
-        (omega (arith, counts))
-        (demand-3 m n nonzeros list cap .throughout (ran start handed budget Run refl) .2)
+        subst (λ (total : ℕ). Demand m n nonzeros list cap (Run .search) total) (omega (arith, counts)) at-answer
 
     -- the showing
     module _ (parts : List ℕ) where

@@ -23,7 +23,7 @@ unfolding answerText
 returns c =
     let command = c .before .before .before .before .before .before in
     let a = command .before .before .before .args in
-    prints-refusal _ _ (command-other (a .input .now) (command .command-of .result) (command .command-of .ensures) (not-true _ (c .before .before .before .before .if1 .taken))) (c .before .before .put-refused .ensures)
+    prints-refusal (command-other (a .input .now) (command .command-of .result) (command .command-of .ensures) (not-true _ (c .before .before .before .before .if1 .taken))) (c .before .before .put-refused .ensures)
 
 put-refused-requires-2 : tie.Need-put-refused-requires-2
 put-refused-requires-2 c κs = search needs

@@ -1,7 +1,8 @@
 -- `answering::splitting::put_line` meets its contract.
 -- Assumes nothing.
 use borrow.Author.Needs.{needs}
-use Rattle.answering.proofs.Steps.{line-split, line-none, line-refused}
+use Rattle.answering.specs.Answer.{lineText}
+use Rattle.answering.proofs.Steps.{line-split, line-as}
 use Rattle.answering.proofs.splitting.put_line.Statement.{statement}
 use Rattle.answering.proofs.splitting.put_line.Tie as tie
 
@@ -27,13 +28,15 @@ same-length : tie.Need-same-length
 same-length c = search needs
 
 returns-2 : tie.Need-returns-2
-returns-2 c = line-none _ _ _ _ (c .before .before .before .before .before .shown .given .1) (c .before .before .put-none .ensures)
+unfolding lineText
+returns-2 c = line-as _ _ _ (c .before .before .before .before .before .shown .given .1) (c .before .before .put-none .ensures)
 
 same-length-2 : tie.Need-same-length-2
 same-length-2 c = search needs
 
 returns-3 : tie.Need-returns-3
-returns-3 c = line-refused _ _ _ _ _ (c .before .before .before .before .before .shown2 .given .1) (c .before .before .put-refused .ensures)
+unfolding lineText
+returns-3 c = line-as _ _ _ (c .before .before .before .before .before .shown2 .given .1) (c .before .before .put-refused .ensures)
 
 pub put-line-spec : {M : Type 1} → statement M
 put-line-spec =

@@ -31,7 +31,7 @@ same-length-2 : tie.Need-same-length-2
 same-length-2 c = search needs
 
 returns-2 : tie.Need-returns-2
-returns-2 c = prints-refusal _ _ (opened-refused (c .before .before .before .before .before .before .before .before .open .result) _ _ _ _ _ _ _ (c .before .before .before .before .before .before .before .before .open .ensures .0) _ _ (c .before .before .before .before .before .verdict .given .1)) (c .before .before .put-refused .ensures)
+returns-2 c = prints-refusal (opened-refused (c .before .before .before .before .before .before .before .before .open .result) _ _ _ _ _ _ _ (c .before .before .before .before .before .before .before .before .open .ensures .0) _ _ (c .before .before .before .before .before .verdict .given .1)) (c .before .before .put-refused .ensures)
 
 pub put-opening-spec : {M : Type 1} → statement M
 put-opening-spec =

@@ -1,5 +1,6 @@
 -- `answering::splitting::put_pattern` meets its contract.
 -- Assumes nothing.
+use mathlib.Core.Path.{sym, _∙_}
 use borrow.Author.Needs.{needs}
 use Rattle.answering.proofs.Steps.{prints-answer, prints-refusal, capped-opened, capped-refused}
 use Rattle.answering.proofs.splitting.put_pattern.Statement.{statement}
@@ -24,13 +25,13 @@ same-length : tie.Need-same-length
 same-length c = search needs
 
 returns : tie.Need-returns
-returns c = prints-answer (capped-opened (c .before .before .before .before .before .before .before .cap-from-percent .result) _ _ _ _ _ _ (c .before .before .before .before .before .before .before .cap-from-percent .ensures .0) _ _ (c .before .before .before .before .before .capped .given .1)) (c .before .before .put-opening .ensures)
+returns c = prints-answer (capped-opened _ _ _ _ _ _ _ (sym (c .before .before .before .before .before .before .before .cap-from-percent .ensures .0) ∙ c .before .before .before .before .before .capped .given .1)) (c .before .before .put-opening .ensures)
 
 same-length-2 : tie.Need-same-length-2
 same-length-2 c = search needs
 
 returns-2 : tie.Need-returns-2
-returns-2 c = prints-refusal _ _ (capped-refused (c .before .before .before .before .before .before .before .cap-from-percent .result) _ _ _ _ _ _ (c .before .before .before .before .before .before .before .cap-from-percent .ensures .0) _ _ (c .before .before .before .before .before .capped2 .given .1)) (c .before .before .put-refused .ensures)
+returns-2 c = prints-refusal (capped-refused _ _ _ _ _ _ _ (sym (c .before .before .before .before .before .before .before .cap-from-percent .ensures .0) ∙ c .before .before .before .before .before .capped2 .given .1)) (c .before .before .put-refused .ensures)
 
 pub put-pattern-spec : {M : Type 1} → statement M
 put-pattern-spec =

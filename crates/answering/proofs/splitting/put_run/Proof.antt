@@ -43,7 +43,7 @@ same-length-3 : tie.Need-same-length-3
 same-length-3 c = search needs
 
 returns-3 : tie.Need-returns-3
-returns-3 c = prints-refusal _ _ (ran-refused (c .before .before .before .before .before .before .before .before .run .result) _ _ _ _ _ _ (c .before .before .before .before .before .before .before .before .run .ensures .0) _ _ (c .before .before .before .before .before .answer .given .1)) (c .before .before .put-refused .ensures)
+returns-3 c = prints-refusal (ran-refused (c .before .before .before .before .before .before .before .before .run .result) _ _ _ _ _ _ (c .before .before .before .before .before .before .before .before .run .ensures .0) _ _ (c .before .before .before .before .before .answer .given .1)) (c .before .before .put-refused .ensures)
 
 pub put-run-spec : {M : Type 1} → statement M
 put-run-spec =

@@ -1,7 +1,8 @@
 -- `answering::splitting::put_text` meets its contract.
 -- Assumes nothing.
+use mathlib.Core.Path.{sym, _∙_}
 use borrow.Author.Needs.{needs}
-use Rattle.answering.proofs.Steps.{prints-answer, prints-refusal, read-capped, read-refused}
+use Rattle.answering.proofs.Steps.{prints-answer, prints-refusal, text-read, text-refused}
 use Rattle.answering.proofs.splitting.put_text.Statement.{statement}
 use Rattle.answering.proofs.splitting.put_text.Tie as tie
 
@@ -33,13 +34,13 @@ same-length : tie.Need-same-length
 same-length c = search needs
 
 returns : tie.Need-returns
-returns c = let read = c .before .before .before .before .before .before .before .before .before .before in let a = read .before .before .before .before .before .args in prints-answer (read-capped (a .text .now) _ _ _ (read .read .result) (read .read .ensures .0) _ _ _ _ (c .before .before .before .before .before .before .read2 .given .1) (read .read .ensures .1 .0)) (c .before .before .put-pattern .ensures)
+returns c = let read = c .before .before .before .before .before .before .before .before .before .before in let a = read .before .before .before .before .before .args in prints-answer (text-read (a .text .now) _ _ _ _ _ _ (sym (read .read .ensures .0) ∙ c .before .before .before .before .before .before .read2 .given .1) ∙ rw (read .read .ensures .1 .0)) (c .before .before .put-pattern .ensures)
 
 same-length-2 : tie.Need-same-length-2
 same-length-2 c = search needs
 
 returns-2 : tie.Need-returns-2
-returns-2 c = let read = c .before .before .before .before .before .before .before .before .before in let a = read .before .before .before .before .before .args in prints-refusal _ _ (read-refused (a .text .now) (a .text .now) _ _ (read .read .result) (read .read .ensures .0) _ _ (c .before .before .before .before .before .read3 .given .1)) (c .before .before .put-refused .ensures)
+returns-2 c = let read = c .before .before .before .before .before .before .before .before .before in let a = read .before .before .before .before .before .args in prints-refusal (text-refused (a .text .now) _ _ _ _ (sym (read .read .ensures .0) ∙ c .before .before .before .before .before .read3 .given .1)) (c .before .before .put-refused .ensures)
 
 pub put-text-spec : {M : Type 1} → statement M
 put-text-spec =
