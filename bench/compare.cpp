@@ -20,7 +20,8 @@ constexpr uint64_t huge[] = {UINT64_MAX, uint64_t(1) << 63, uint64_t(1) << 32,
                              (uint64_t(1) << 32) + 1, uint64_t(1) << 16, 256, 257};
 
 struct Input {
-    uint64_t m = 0, n = 0, nonzeros = 0, cap = 0, budget = 0;
+    uint64_t m = 0, n = 0, nonzeros = 0, budget = 0;
+    baseline::Caps caps = {0, 0};
     std::vector<uint8_t> list;   // its length is the length lent
     size_t parts_length = 0, figures_length = 0;
     uint8_t filling = 0;         // what the output holds before the call
@@ -48,8 +49,8 @@ Outcome call(bipartition_function* function, const Input& input) {
     outcome.parts = filled(input.parts_length, input.filling);
     outcome.figures = filled(input.figures_length, uint8_t(~input.filling));
     outcome.answer = function(input.m, input.n, input.nonzeros, outcome.list.data(),
-                              input.list.size(), input.cap, input.budget,
-                              outcome.parts.data(), input.parts_length,
+                              input.list.size(), input.caps[0], input.caps[1],
+                              input.budget, outcome.parts.data(), input.parts_length,
                               outcome.figures.data(), input.figures_length);
     return outcome;
 }
@@ -79,7 +80,26 @@ uint64_t random_cap(Random& random, uint64_t nonzeros) {
     }
 }
 
-// An input that is accepted, unless its random cap is too low.
+// Caps that sum to the nonzeros, or to one or two less or more.
+baseline::Caps barely_enough(Random& random, uint64_t nonzeros) {
+    uint64_t sum = nonzeros + random.below(5);
+    sum -= std::min<uint64_t>(sum, 2);
+    uint64_t first = random.below(sum + 1);
+    return {first, sum - first};
+}
+
+// Half of them equal; of the others some have all nonzeros in one part.
+baseline::Caps random_caps(Random& random, uint64_t nonzeros) {
+    if (random.chance(50)) return baseline::equal_caps(random_cap(random, nonzeros));
+    switch (random.below(5)) {
+    case 0: return {0, nonzeros};
+    case 1: return {nonzeros, 0};
+    case 2: return {random_cap(random, nonzeros), random_cap(random, nonzeros)};
+    default: return barely_enough(random, nonzeros);
+    }
+}
+
+// An input that is accepted, unless its random caps are too low.
 Input accepted_input(Random& random, uint64_t side, uint64_t budget) {
     Input input;
     input.m = random.between(1, side);
@@ -88,7 +108,7 @@ Input accepted_input(Random& random, uint64_t side, uint64_t budget) {
     bool sparse = random.chance(50);
     input.nonzeros = random.below((sparse ? std::min(most, 3 * (input.m + input.n)) : most) + 1);
     input.list = random_list(random, input.m, input.n, input.nonzeros);
-    input.cap = random_cap(random, input.nonzeros);
+    input.caps = random_caps(random, input.nonzeros);
     input.budget = random.below(budget + 1);
     input.parts_length = input.nonzeros;
     input.figures_length = 32;
@@ -119,6 +139,14 @@ void spoil_list(Random& random, Input& input) {
     }
 }
 
+// One cap or both: about the most that a cap may be, or about half of the nonzeros.
+void spoil_caps(Random& random, Input& input) {
+    uint64_t middle = random.chance(50) ? 1999 : input.nonzeros / 2;
+    uint64_t which = random.below(3);
+    for (uint64_t part = 0; part < 2; ++part)
+        if (which != part) input.caps[part] = strange(random, middle);
+}
+
 void resize_list(Random& random, Input& input) {
     size_t size = input.list.size();
     if (random.chance(50)) input.list.resize(size + random.below(9), uint8_t(random.any()));
@@ -139,7 +167,7 @@ void spoil(Random& random, Input& input) {
     case 0: input.m = strange(random, 120); break;
     case 1: input.n = strange(random, 120); break;
     case 2: input.nonzeros = strange(random, std::min<uint64_t>(input.nonzeros + 1, 1999)); break;
-    case 3: input.cap = strange(random, random.chance(50) ? 1999 : input.nonzeros / 2); break;
+    case 3: spoil_caps(random, input); break;
     case 4: input.budget = strange(random, 1000001); break;
     case 5: input.parts_length = around(random, input.nonzeros % 4096); break;
     case 6: input.figures_length = around(random, 32); break;
@@ -166,10 +194,10 @@ struct Tally {
 
 void describe(const Input& input, const Outcome& a, const Outcome& b) {
     std::cout << "differs: m " << input.m << " n " << input.n << " nonzeros " << input.nonzeros
-              << " list bytes " << input.list.size() << " cap " << input.cap << " budget "
-              << input.budget << " parts bytes " << input.parts_length << " figures bytes "
-              << input.figures_length << ": answers " << a.answer << " and " << b.answer
-              << "\n  list";
+              << " list bytes " << input.list.size() << " caps " << input.caps[0] << " "
+              << input.caps[1] << " budget " << input.budget << " parts bytes "
+              << input.parts_length << " figures bytes " << input.figures_length
+              << ": answers " << a.answer << " and " << b.answer << "\n  list";
     for (size_t at = 0; at < std::min<size_t>(input.list.size(), 60); ++at)
         std::cout << " " << int(input.list[at]);
     std::cout << "\n";

@@ -26,7 +26,7 @@ int main(int count, char** words) {
     List list{content.rows, content.columns, content.nonzeros, bytes.data(), bytes.size()};
     uint64_t percent = std::strtoull(words[1], nullptr, 10);
     if (!answer.refused()) answer = cap_from_percent(content.nonzeros, percent, capped);
-    if (!answer.refused()) answer = open(list, capped.cap, record);
+    if (!answer.refused()) answer = open(list, equal_caps(capped.cap), record);
     while (!answer.refused() && !record.complete) answer = run(walk, list, record, most_budget);
     Shown shown;
     if (!answer.refused()) answer = show(walk, list, record, parts.data(), parts.size(), shown);
@@ -35,8 +35,8 @@ int main(int count, char** words) {
                     (unsigned long long)answer.place);
         return 1;
     }
-    std::printf("volume %llu cap %llu rest %llu tries %llu floor %llu complete, %.2f processor seconds\n",
-                (unsigned long long)shown.volume, (unsigned long long)capped.cap,
-                (unsigned long long)capped.rest, (unsigned long long)record.tries,
-                (unsigned long long)shown.floor, double(std::clock()) / CLOCKS_PER_SEC);
+    CommentFigures figures{shown.volume, record.caps, capped.rest, record.tries, shown.floor, 1};
+    std::printf("volume %llu %s complete, %.2f processor seconds\n",
+                (unsigned long long)shown.volume, written_figures(figures).c_str(),
+                double(std::clock()) / CLOCKS_PER_SEC);
 }

@@ -1,6 +1,7 @@
 // Checks both walks and the texts against each other, against vectors from
-// another model, against the samples of documents 01 and 02 and against brute
-// force, and symmetric and valued texts against plain ones.
+// another model, against the samples of documents 01 and 02 and, on small
+// patterns, against all splits, with equal and unequal caps; and symmetric and
+// valued texts against plain ones.
 // Usage: selftest DATA-DIRECTORY. The last line is "N checked, 0 differ".
 #include "baseline/text.hpp"
 #include "random_texts.hpp"
@@ -8,6 +9,7 @@
 #include <fstream>
 #include <iostream>
 #include <iterator>
+#include <map>
 #include <sstream>
 
 using namespace baseline;
@@ -31,9 +33,11 @@ const char* const walk_names[] = {"plain", "incremental"};
 
 // A pattern with its own bytes.
 struct Sample {
-    uint64_t rows = 0, columns = 0, cap = 0;
+    uint64_t rows = 0, columns = 0;
+    Caps caps = {0, 0};
     std::vector<uint8_t> bytes;
     uint64_t nonzeros() const { return bytes.size() / 2; }
+    bool unequal() const { return caps[0] != caps[1]; }
     List list() const { return {rows, columns, nonzeros(), bytes.data(), bytes.size()}; }
 };
 
@@ -52,7 +56,7 @@ void show_state(const Walk& walk, const Sample& sample, State& state) {
 
 State opened(const Sample& sample) {
     State state;
-    check(!open(sample.list(), sample.cap, state.record).refused(), "an opening is accepted");
+    check(!open(sample.list(), sample.caps, state.record).refused(), "an opening is accepted");
     return state;
 }
 
@@ -77,13 +81,16 @@ bool next_filled(std::istream& file, std::string& line) {
     return false;
 }
 
-// The two lines of a pattern: its numbers, then its nonzeros.
+// The two lines of a pattern: its numbers, then its nonzeros. The word "cap" has
+// one number, which is the cap of both parts, and "caps" has two.
 Sample read_sample(std::istream& file, const std::string& first_line) {
     Sample sample;
     std::string word;
     uint64_t nonzeros;
     std::istringstream first(first_line);
-    first >> word >> sample.rows >> sample.columns >> nonzeros >> word >> sample.cap;
+    first >> word >> sample.rows >> sample.columns >> nonzeros >> word >> sample.caps[0];
+    if (word == "caps") first >> sample.caps[1];
+    else sample.caps[1] = sample.caps[0];
     std::string line;
     if (nonzeros == 0) return sample;
     std::getline(file, line);
@@ -120,9 +127,9 @@ void check_bounds_line(const Sample& sample, const std::string& line) {
     marks.fill(unmarked);
     for (size_t at = 0; at < letters.size(); ++at) marks[at] = mark_of(letters[at]);
     Pattern pattern = take_apart(sample.list());
-    Evaluation found = plain().evaluate(pattern, sample.cap, marks);
+    Evaluation found = plain().evaluate(pattern, sample.caps, marks);
     check(described(found) == rest, "plain, bounds: " + line);
-    Evaluation again = incremental().evaluate(pattern, sample.cap, marks);
+    Evaluation again = incremental().evaluate(pattern, sample.caps, marks);
     bool same = found.valid ? described(again) == rest : !again.valid;
     check(same, "incremental, bounds: " + line);
 }
@@ -135,7 +142,7 @@ void check_bounds(const std::string& name) {
     for (; next_filled(file, line); ++lines)
         if (line.rfind("pattern", 0) == 0) sample = read_sample(file, line);
         else check_bounds_line(sample, line);
-    check(lines > 100, "bounds.txt is there");
+    check(lines > 100, name + " is there");
 }
 
 std::string letters_of(const Marking& marking) {
@@ -179,13 +186,18 @@ void check_walks(const std::string& name) {
                                                        "\n  found:   " + described(state));
         }
     }
-    check(lines > 100, "walks.txt is there");
+    check(lines > 100, name + " is there");
 }
 
 // ---- samples of document 01 and of its warnings, counted from 0
 
+Sample sample_of(uint64_t rows, uint64_t columns, Caps caps, std::vector<uint8_t> bytes) {
+    return {rows, columns, caps, std::move(bytes)};
+}
+
+// The same cap for both parts.
 Sample sample_of(uint64_t rows, uint64_t columns, uint64_t cap, std::vector<uint8_t> bytes) {
-    return {rows, columns, cap, std::move(bytes)};
+    return sample_of(rows, columns, equal_caps(cap), std::move(bytes));
 }
 
 void check_end(const Sample& sample, uint64_t volume, uint64_t tries, const char* what) {
@@ -205,7 +217,7 @@ void check_least(const Sample& sample, uint64_t volume, const char* what) {
 
 void check_opening(const Sample& sample, uint64_t number, uint64_t place, const char* what) {
     Record record;
-    Answer answer = open(sample.list(), sample.cap, record);
+    Answer answer = open(sample.list(), sample.caps, record);
     check(answer.number == number && answer.place == place && record == Record(), what);
 }
 
@@ -267,7 +279,7 @@ void check_all_caps() {
     Sample sample = sample_of(120, 120, 0, {});
     for (uint64_t nonzeros = 0; nonzeros <= most_nonzeros; ++nonzeros) {
         for (uint64_t percent = 0; percent <= most_percent; ++percent) {
-            sample.cap = check_cap(nonzeros, percent);
+            sample.caps = equal_caps(check_cap(nonzeros, percent));
             opened(sample);
         }
         sample.bytes.push_back(uint8_t(nonzeros / 120));
@@ -289,7 +301,7 @@ void check_samples() {
     check_least(full, 2, "full 2 by 2");
     Sample row = sample_of(1, 3, 2, {0, 0, 0, 1, 0, 2});
     check_least(row, 1, "full 1 by 3");
-    row.cap = 1;
+    row.caps = {1, 1};
     check_opening(row, no_split, 0, "full 1 by 3, cap 1");
     check_end(sample_of(2, 3, 0, {}), 0, 0, "2 by 3 without nonzeros");
     check_least(sample_of(3, 4, 7, {0, 2, 0, 3, 1, 1, 1, 2, 1, 3, 2, 0, 2, 2, 2, 3}), 1,
@@ -308,19 +320,58 @@ void check_sample_bound() {
     marks[2] = mark_0;
     marks[1] = mark_1;
     for (const Walk* walk : walks) {
-        Evaluation found = walk->evaluate(take_apart(sample.list()), sample.cap, marks);
+        Evaluation found = walk->evaluate(take_apart(sample.list()), sample.caps, marks);
         check(found.valid && found.l3 == 0 && found.l4 == 1, "the sample of L3 and L4");
     }
 }
 
+// The end of a search and the split that it shows.
+void check_shown(const Sample& sample, uint64_t volume, uint64_t tries,
+                 std::vector<uint8_t> parts, const char* what) {
+    check_end(sample, volume, tries, what);
+    for (const Walk* walk : walks) {
+        State state = after(*walk, sample, tries);
+        state.parts.resize(sample.nonzeros());
+        check(state.parts == parts, what);
+    }
+}
+
+void check_unequal_samples() {
+    check_shown(sample_of(1, 1, {0, 1}, {0, 0}), 0, 6, {1}, "one nonzero, caps 0 and 1");
+    check_shown(sample_of(1, 1, {1, 0}, {0, 0}), 0, 6, {0}, "one nonzero, caps 1 and 0");
+    check_opening(sample_of(1, 1, {0, 0}, {0, 0}), no_split, 0, "one nonzero, caps 0 and 0");
+    Sample row = sample_of(1, 3, {0, 3}, {0, 0, 0, 1, 0, 2});
+    check_shown(row, 0, 12, {1, 1, 1}, "full 1 by 3, caps 0 and 3");
+    row.caps = {1, 2};
+    check_shown(row, 1, 12, {0, 1, 1}, "full 1 by 3, caps 1 and 2");
+    row.caps = {2, 1};
+    check_shown(row, 1, 12, {0, 0, 1}, "full 1 by 3, caps 2 and 1");
+    row.caps = {0, 2};
+    check_opening(row, no_split, 0, "full 1 by 3, caps 0 and 2");
+    Sample apart = sample_of(2, 4, {3, 1}, {0, 0, 0, 1, 0, 2, 1, 3});
+    check_shown(apart, 0, 18, {0, 0, 0, 1}, "three in a row and one apart, caps 3 and 1");
+    apart.caps = {2, 2};
+    check_shown(apart, 1, 16, {0, 1, 1, 0}, "three in a row and one apart, caps 2 and 2");
+    apart.caps = {1, 3};
+    check_shown(apart, 0, 18, {1, 1, 1, 0}, "three in a row and one apart, caps 1 and 3");
+    check_end(sample_of(2, 3, {0, 7}, {}), 0, 0, "2 by 3 without nonzeros, caps 0 and 7");
+}
+
 // ---- openings, runs and showings that are refused
+
+void expect_opening(List list, std::vector<uint8_t> bytes, Caps caps, uint64_t number,
+                    uint64_t place) {
+    Record record;
+    list.bytes = bytes.data();
+    list.length = bytes.size();
+    Answer answer = open(list, caps, record);
+    check(answer.number == number && answer.place == place, "an opening's answer");
+}
 
 void check_refused_openings() {
     auto expect = [](uint64_t m, uint64_t n, uint64_t nonzeros, std::vector<uint8_t> bytes,
                      uint64_t cap, uint64_t number, uint64_t place) {
-        Record record;
-        Answer answer = open({m, n, nonzeros, bytes.data(), bytes.size()}, cap, record);
-        check(answer.number == number && answer.place == place, "a refused opening");
+        expect_opening({m, n, nonzeros, nullptr, 0}, bytes, equal_caps(cap), number, place);
     };
     expect(0, 1, 0, {}, 9999, too_big, 0);
     expect(1, 0, 0, {}, 9999, too_big, 0);
@@ -342,6 +393,21 @@ void check_refused_openings() {
     expect(2, 2, 2, {0, 0, 0, 1}, 0, no_split, 0);
     expect(2, 2, 2, {0, 0, 0, 1, 9, 9}, 2000, 0, 0);
     expect(120, 120, 1, {119, 119}, 1, 0, 0);
+}
+
+// A row of two nonzeros under caps in and out of their range.
+void check_refused_caps() {
+    auto expect = [](Caps caps, uint64_t number) {
+        expect_opening({2, 2, 2, nullptr, 0}, {0, 0, 0, 1}, caps, number, 0);
+    };
+    for (uint64_t over : {uint64_t(2001), uint64_t(1) << 32, uint64_t(1) << 63, UINT64_MAX})
+        for (uint64_t other : {uint64_t(0), uint64_t(2), uint64_t(2000), over}) {
+            expect({over, other}, cap_range);
+            expect({other, over}, cap_range);
+        }
+    for (Caps caps : {Caps{0, 0}, {0, 1}, {1, 0}}) expect(caps, no_split);
+    for (Caps caps : {Caps{1, 1}, {0, 2}, {2, 0}, {0, 2000}, {2000, 0}, {2000, 2000}})
+        expect(caps, 0);
 }
 
 // Alters an accepted record; a run and a showing must then be refused with 14.
@@ -368,8 +434,8 @@ void check_states() {
     refused(3, [](Record& r) { r.rows = 3; }, "other rows");
     refused(3, [](Record& r) { r.columns = 3; }, "other columns");
     refused(3, [](Record& r) { r.nonzeros = 1; }, "other nonzeros");
-    refused(3, [](Record& r) { r.cap = 0; }, "cap too low");
-    refused(3, [](Record& r) { r.cap = 2001; }, "cap too high");
+    refused(3, [](Record& r) { r.caps = {0, 0}; }, "caps too low");
+    refused(3, [](Record& r) { r.caps = {2001, 2001}; }, "caps too high");
     refused(3, [](Record& r) { r.tries = most_tries + 1; }, "too many tries");
     refused(3, [](Record& r) { r.trail.clear(); }, "no trail, not complete");
     refused(3, [](Record& r) { r.trail = {0, 0, 0, 0, 0}; }, "trail too long");
@@ -386,6 +452,33 @@ void check_states() {
     refused(11, [](Record& r) { r.best_count = 1; }, "best count of another marking");
     refused(11, [](Record& r) { r.best = {0, 0, 0, 0}; }, "best marking not valid");
     refused(11, [](Record& r) { r.best = {0, 1, 0, 3}; }, "best marking with no legal mark");
+}
+
+// With unequal caps the first mark other than cut may be 1, and each part is
+// held against its own cap.
+void check_unequal_states() {
+    Sample sample = sample_of(2, 2, {0, 2}, {0, 0, 1, 1});   // k = 4; 12 tries to the end
+    auto refused = [&](uint64_t tries, auto alter, const char* what) {
+        check_state(sample, tries, alter, what);
+    };
+    refused(3, [](Record& r) { r.caps = {0, 1}; }, "caps too low");
+    refused(3, [](Record& r) { r.caps = {1, 0}; }, "caps too low, exchanged");
+    refused(3, [](Record& r) { r.caps = {2001, 2}; }, "cap 0 too high");
+    refused(3, [](Record& r) { r.caps = {0, 2001}; }, "cap 1 too high");
+    refused(3, [](Record& r) { r.caps = {UINT64_MAX, 3}; }, "cap 0 far too high");
+    refused(3, [](Record& r) { r.caps = {3, UINT64_MAX}; }, "cap 1 far too high");
+    refused(3, [](Record& r) { r.trail = {0, 1}; }, "a proper beginning over cap 0");
+    refused(3, [](Record& r) { r.caps = {2, 0}; r.trail = {1, 0}; }, "one over cap 1");
+    refused(3, [](Record& r) { r.caps = {2, 2}; r.trail = {1}; }, "equal caps, first mark 1");
+    refused(3, [](Record& r) { r.caps = {2, 2}; r.trail = {2, 1}; }, "equal caps, 1 after cut");
+    refused(12, [](Record& r) { r.best = {0, 0, 0, 0}; }, "best marking over cap 0");
+    refused(12, [](Record& r) { r.caps = {2, 0}; }, "best marking over cap 1");
+    for (const Walk* walk : walks)
+        for (const Marking& trail : {Marking{0}, {1}, {2, 1}, {1, 1, 0}, {2, 2, 2, 1}}) {
+            State state = opened(sample);
+            state.record.trail = trail;
+            check(!run(*walk, sample.list(), state.record, 1).refused(), "a trail with 1 first");
+        }
 }
 
 void check_accepted_states() {
@@ -425,14 +518,28 @@ void check_budgets() {
 
 // ---- random patterns
 
+// Caps that meet no refusal; most are barely enough.
+Caps random_equal(Random& random, uint64_t nonzeros) {
+    uint64_t half = (nonzeros + 1) / 2;
+    return equal_caps(half + random.below(random.chance(70) ? 3 : nonzeros - half + 2));
+}
+
+Caps random_unequal(Random& random, uint64_t nonzeros) {
+    uint64_t one = random.below(nonzeros + 1);
+    uint64_t more = random.below(random.chance(70) ? 3 : nonzeros + 2);
+    uint64_t other = std::min(nonzeros - one + more, most_cap);
+    if (one == other) other = other < most_cap ? other + 1 : other - 1;
+    return random.chance(50) ? Caps{one, other} : Caps{other, one};
+}
+
 Sample random_sample(Random& random, uint64_t side, uint64_t most) {
     Sample sample;
     sample.rows = random.between(1, side);
     sample.columns = random.between(1, side);
     uint64_t nonzeros = random.below(std::min(sample.rows * sample.columns, most) + 1);
     sample.bytes = random_list(random, sample.rows, sample.columns, nonzeros);
-    uint64_t half = (nonzeros + 1) / 2;
-    sample.cap = half + random.below(random.chance(70) ? 3 : nonzeros - half + 2);
+    sample.caps = random.chance(50) ? random_equal(random, nonzeros)
+                                    : random_unequal(random, nonzeros);
     return sample;
 }
 
@@ -503,39 +610,122 @@ void check_random_bounds(int patterns) {
             for (int nonzero = 0; nonzero < pattern.nonzeros; ++nonzero)
                 if (marks[pattern.row[nonzero]] + marks[pattern.column[nonzero]] == 1)
                     marks[pattern.column[nonzero]] = unmarked;
-        Evaluation a = plain().evaluate(pattern, sample.cap, marks);
-        Evaluation b = incremental().evaluate(pattern, sample.cap, marks);
+        Evaluation a = plain().evaluate(pattern, sample.caps, marks);
+        Evaluation b = incremental().evaluate(pattern, sample.caps, marks);
         check(a.valid == b.valid && (!a.valid || described(a) == described(b)),
               "bounds: " + described(a) + " and " + described(b));
     }
 }
 
-uint64_t least_volume(const Pattern& pattern, uint64_t cap) {
-    uint64_t least = UINT64_MAX;
+// ---- all splits of small patterns
+
+// By the number of nonzeros in part 0: the least volume of all those splits.
+std::vector<uint64_t> least_volumes(const Pattern& pattern) {
+    std::vector<uint64_t> least(pattern.nonzeros + 1, UINT64_MAX);
     std::vector<uint8_t> parts(pattern.nonzeros);
     for (uint64_t split = 0; split < uint64_t(1) << pattern.nonzeros; ++split) {
         for (int at = 0; at < pattern.nonzeros; ++at) parts[at] = split >> at & 1;
-        uint64_t load = std::count(parts.begin(), parts.end(), 1);
-        if (load <= cap && pattern.nonzeros - load <= cap)
-            least = std::min(least, volume(pattern, parts.data()));
+        uint64_t& lowest = least[std::count(parts.begin(), parts.end(), 0)];
+        lowest = std::min(lowest, volume(pattern, parts.data()));
     }
     return least;
+}
+
+bool meets(const Caps& caps, uint64_t nonzeros, uint64_t in_part_0) {
+    return in_part_0 <= caps[0] && nonzeros - in_part_0 <= caps[1];
+}
+
+// The least volume of a split that meets both caps.
+uint64_t least_volume(const std::vector<uint64_t>& volumes, const Caps& caps) {
+    uint64_t least = UINT64_MAX, nonzeros = volumes.size() - 1;
+    for (uint64_t in_part_0 = 0; in_part_0 <= nonzeros; ++in_part_0)
+        if (meets(caps, nonzeros, in_part_0)) least = std::min(least, volumes[in_part_0]);
+    return least;
+}
+
+// A complete search shows a split that meets both caps, of the least volume.
+void check_complete(const Sample& sample, const State& state, uint64_t least) {
+    check(state.record.complete && state.shown.volume == least &&
+              state.record.best_count == least && state.shown.floor == least,
+          "the least volume of all splits");
+    auto parts = state.parts.begin();
+    uint64_t in_part_0 = std::count(parts, parts + long(sample.nonzeros()), 0);
+    check(meets(sample.caps, sample.nonzeros(), in_part_0), "both caps are met");
 }
 
 void check_brute_force(int patterns) {
     Random random(4);
     for (int at = 0; at < patterns; ++at) {
         Sample sample = random_sample(random, 6, 10);
-        uint64_t least = least_volume(take_apart(sample.list()), sample.cap);
-        for (const Walk* walk : walks) {
-            State state = after(*walk, sample, most_budget);
-            const uint8_t* parts = state.parts.data();
-            uint64_t load = std::count(parts, parts + sample.nonzeros(), 1);
-            check(state.record.complete && state.shown.volume == least &&
-                      state.record.best_count == least && state.shown.floor == least,
-                  "brute force");
-            check(load <= sample.cap && sample.nonzeros() - load <= sample.cap, "cap is met");
+        uint64_t least = least_volume(least_volumes(take_apart(sample.list())), sample.caps);
+        for (const Walk* walk : walks)
+            check_complete(sample, after(*walk, sample, most_budget), least);
+    }
+}
+
+bool begins_with_1(const Marking& trail) {
+    auto first = std::find_if(trail.begin(), trail.end(),
+                              [](Mark mark) { return mark != mark_cut; });
+    return first != trail.end() && *first == mark_1;
+}
+
+// Both walks, one try at a time: equal states, and no floor above the least
+// volume. A trail whose first mark other than cut is 1 comes exactly if the
+// caps are unequal. Gives the volume at the end.
+uint64_t check_each_try(const Sample& sample, uint64_t least) {
+    State states[2] = {opened(sample), opened(sample)};
+    bool one_first = false, accepted = true;
+    while (accepted) {
+        for (int way = 0; way < 2; ++way) show_state(*walks[way], sample, states[way]);
+        check(same_state(states[0], states[1]), "each try: both walks");
+        check(states[0].shown.floor <= least, "each try: the floor");
+        one_first = one_first || begins_with_1(states[0].record.trail);
+        if (states[0].record.complete) break;
+        for (int way = 0; way < 2; ++way)
+            accepted = !run(*walks[way], sample.list(), states[way].record, 1).refused() && accepted;
+    }
+    check(accepted, "each try: accepted");
+    check(one_first == (sample.unequal() && sample.nonzeros() > 0), "mark 1 before any 0");
+    check_complete(sample, states[0], least);
+    return states[0].shown.volume;
+}
+
+// Every pair of caps up to one more than the nonzeros; exchanged caps end at the
+// same volume.
+void check_pairs_of_caps(Sample sample) {
+    uint64_t nonzeros = sample.nonzeros();
+    std::vector<uint64_t> volumes = least_volumes(take_apart(sample.list()));
+    std::map<Caps, uint64_t> shown;
+    for (uint64_t cap0 = 0; cap0 <= nonzeros + 1; ++cap0)
+        for (uint64_t cap1 = 0; cap1 <= nonzeros + 1; ++cap1) {
+            sample.caps = {cap0, cap1};
+            if (cap0 + cap1 < nonzeros) check_opening(sample, no_split, 0, "caps too low");
+            else shown[sample.caps] = check_each_try(sample, least_volume(volumes, sample.caps));
         }
+    for (auto [caps, volume] : shown)
+        check(volume == shown[{caps[1], caps[0]}], "exchanged caps");
+}
+
+// All patterns of 1 to 3 rows and columns.
+void check_all_patterns() {
+    for (uint64_t rows = 1; rows <= 3; ++rows)
+        for (uint64_t columns = 1; columns <= 3; ++columns)
+            for (uint64_t cells = 0; cells < uint64_t(1) << (rows * columns); ++cells) {
+                Sample sample = sample_of(rows, columns, 0, {});
+                for (uint64_t cell = 0; cell < rows * columns; ++cell)
+                    if (cells >> cell & 1) {
+                        sample.bytes.push_back(uint8_t(cell / columns));
+                        sample.bytes.push_back(uint8_t(cell % columns));
+                    }
+                check_pairs_of_caps(sample);
+            }
+}
+
+void check_random_tries(int patterns) {
+    Random random(7);
+    for (int at = 0; at < patterns; ++at) {
+        Sample sample = random_sample(random, 5, 9);
+        check_each_try(sample, least_volume(least_volumes(take_apart(sample.list())), sample.caps));
     }
 }
 
@@ -556,26 +746,31 @@ Sample read_matrix(const std::string& name) {
     sample.rows = content.rows;
     sample.columns = content.columns;
     sample.bytes.resize(2 * content.nonzeros);
-    sample.cap = capped_at(content.nonzeros, 3).cap;
+    sample.caps = equal_caps(capped_at(content.nonzeros, 3).cap);
     return sample;
 }
 
 void check_matrix(const std::string& name, uint64_t nonzeros, uint64_t cap, uint64_t budget) {
     Sample sample = read_matrix(name);
-    check(sample.nonzeros() == nonzeros && sample.cap == cap, name + ": nonzeros and cap");
+    check(sample.nonzeros() == nonzeros && sample.caps == equal_caps(cap),
+          name + ": nonzeros and cap");
     State a = after(plain(), sample, budget), b = after(incremental(), sample, budget);
     check(same_state(a, b), name + ": both walks");
 }
 
 void check_matrices(const std::string& data) {
     Sample karate = read_matrix(data + "/karate.mtx");
-    check(karate.cap == 80, "karate: cap 80");
+    check(karate.caps == equal_caps(80), "karate: cap 80");
     check_end(karate, 8, 24934, "karate: volume 8, complete after 24,934 tries");
+    karate.caps = {52, 104};
+    check_end(karate, 7, 10587, "karate: volume 7 with a third of the nonzeros in part 0");
+    karate.caps = {104, 52};
+    check_end(karate, 7, 211260, "karate: volume 7 with a third of the nonzeros in part 1");
     Sample divorce = read_matrix(data + "/divorce.mtx");
-    check(divorce.nonzeros() == 225 && divorce.cap == 116, "divorce: cap 116");
+    check(divorce.nonzeros() == 225 && divorce.caps == equal_caps(116), "divorce: cap 116");
     check_end(divorce, 8, 3933, "divorce: volume 8, complete after 3,933 tries");
     Sample cage5 = read_matrix(data + "/cage5.mtx");
-    check(cage5.nonzeros() == 233 && cage5.cap == 120, "cage5: cap 120");
+    check(cage5.nonzeros() == 233 && cage5.caps == equal_caps(120), "cage5: cap 120");
     check_end(cage5, 14, 744337, "cage5: volume 14, complete after 744,337 tries");
     check_matrix(data + "/karate.mtx", 156, 80, 10000);
     check_matrix(data + "/chesapeake.mtx", 340, 175, 100000);
@@ -976,8 +1171,8 @@ void check_random_forms(int texts) {
 }
 
 void check_writer() {
-    std::vector<uint8_t> parts = {0, 1}, out(200, 77);
-    CommentFigures figures{0, 1, 0, 11, 0, 1};
+    std::vector<uint8_t> parts = {0, 1}, out(300, 77);
+    CommentFigures figures{0, {1, 20}, 3, 11, 0, 1};
     auto write = [&](List list, size_t parts_length, size_t out_length) {
         size_t length = 0;
         Answer answer = write_text(list, parts.data(), parts_length, figures, out.data(),
@@ -985,15 +1180,15 @@ void check_writer() {
         return answer.refused() ? answer.number + 256 * answer.place : 1000 + length;
     };
     std::vector<uint8_t> bytes = {0, 0, 1, 1};
-    const std::string wanted = integer_banner + "% volume 0 cap 1 rest 0 tries 11 floor 0 complete\n"
+    const std::string wanted = integer_banner + "% volume 0 caps 1 20 rest 3 tries 11 floor 0 complete\n"
                                                 "2 2 2\n1 1 1\n2 2 2\n";
     check(write({3, 2, 7, bytes.data(), 4}, 0, 0) == too_big, "writer: 4");
-    check(write({2, 2, 2, bytes.data(), 3}, 2, 200) == short_buffer, "writer: 9 for the list");
-    check(write({2, 1, 2, bytes.data(), 4}, 1, 200) == short_buffer, "writer: 9 for parts");
+    check(write({2, 2, 2, bytes.data(), 3}, 2, 300) == short_buffer, "writer: 9 for the list");
+    check(write({2, 1, 2, bytes.data(), 4}, 1, 300) == short_buffer, "writer: 9 for parts");
     check(write({2, 1, 2, bytes.data(), 4}, 2, 0) == off_matrix + 256, "writer: 5");
     check(write({2, 2, 2, bytes.data(), 4}, 2, wanted.size() - 1) == short_buffer, "writer: 9");
-    check(out == std::vector<uint8_t>(200, 77), "writer: output stays");
-    check(write({2, 2, 2, bytes.data(), 4}, 2, 200) == 1000 + wanted.size(), "writer: length");
+    check(out == std::vector<uint8_t>(300, 77), "writer: output stays");
+    check(write({2, 2, 2, bytes.data(), 4}, 2, 300) == 1000 + wanted.size(), "writer: length");
     check(std::string(out.begin(), out.begin() + long(wanted.size())) == wanted, "writer: text");
     check(out[wanted.size()] == 77, "writer: bytes past the text stay");
     bytes = {0, 0, 0, 0};
@@ -1002,10 +1197,11 @@ void check_writer() {
     check(write({2, 2, 2, bytes.data(), 4}, 2, 0) == order + 256, "writer: 10 before 8");
     parts = {2, 2};
     check(write({2, 2, 2, bytes.data(), 4}, 2, 0) == part, "writer: 8 of an earlier nonzero");
-    figures = {UINT64_MAX, UINT64_MAX, UINT64_MAX, UINT64_MAX, UINT64_MAX, 0};
+    constexpr uint64_t most = UINT64_MAX;
+    figures = {most, {most, most}, most, most, most, 0};
     parts = {0, 0};
-    const std::string bare = integer_banner + "% volume  cap  rest  tries  floor  stopped\n1 1 0\n";
-    check(write({1, 1, 0, nullptr, 0}, 0, 200) == 1000 + bare.size() + 5 * 20, "writer: widest");
+    const std::string bare = integer_banner + "% volume  caps   rest  tries  floor  stopped\n1 1 0\n";
+    check(write({1, 1, 0, nullptr, 0}, 0, 300) == 1000 + bare.size() + 6 * 20, "writer: widest");
 }
 
 void check_round_trips(int patterns) {
@@ -1016,8 +1212,8 @@ void check_round_trips(int patterns) {
         for (uint8_t& byte : parts) byte = uint8_t(random.below(2));
         std::vector<uint8_t> out(longest_text);
         size_t length = 0;
-        Answer answer = write_text(sample.list(), parts.data(), parts.size(), {1, 2, 3, 4, 5, 6},
-                                   out.data(), out.size(), length);
+        Answer answer = write_text(sample.list(), parts.data(), parts.size(),
+                                   {1, {2, 3}, 4, 5, 6, 7}, out.data(), out.size(), length);
         TextContent content;
         Answer back = read_text({reinterpret_cast<char*>(out.data()), length}, list_back.data(),
                                 list_back.size(), parts_back.data(), parts_back.size(), content);
@@ -1038,34 +1234,34 @@ void check_odd_splits() {
     const std::string row = pattern_banner + "1 3 3\n1 3\n1 1\n1 2\n";
     const std::string column = pattern_banner + "3 1 3\n3 1\n1 1\n2 1\n";
     check_split("percent 0 budget 100\n" + one,
-                solved("volume 0 cap 1 rest 0 tries 5 floor 0", "1 1 1\n1 1 1\n"));
+                solved("volume 0 caps 1 1 rest 0 tries 5 floor 0", "1 1 1\n1 1 1\n"));
     check_split("percent 100 budget 100\n" + one,
-                solved("volume 0 cap 2 rest 0 tries 5 floor 0", "1 1 1\n1 1 1\n"));
+                solved("volume 0 caps 2 2 rest 0 tries 5 floor 0", "1 1 1\n1 1 1\n"));
     check_split("percent 0 budget 1000001\n" + one, "refused 13 at 0\n");
     check_split("percent 101 budget 1000001\n" + one, "refused 11 at 0\n");
     for (auto [percent, rest] : {std::pair{"0", "0"}, {"33", "66"}, {"49", "98"}}) {
-        const std::string capped = "cap 2 rest " + std::string(rest);
+        const std::string capped = "caps 2 2 rest " + std::string(rest);
         const std::string command = "percent " + std::string(percent);
         check_split(command + " budget 100\n" + row,
                     solved("volume 1 " + capped + " tries 10 floor 1", "1 3 3\n1 1 1\n1 2 1\n1 3 2\n"));
         check_split(command + " budget 0\n" + row, "none yet " + capped + " tries 0 floor 1\n");
     }
     check_split("percent 0 budget 100\n" + column,
-                solved("volume 1 cap 2 rest 0 tries 10 floor 1", "3 1 3\n1 1 1\n2 1 1\n3 1 2\n"));
+                solved("volume 1 caps 2 2 rest 0 tries 10 floor 1", "3 1 3\n1 1 1\n2 1 1\n3 1 2\n"));
     check_split("percent 100 budget 100\n" + row,
-                solved("volume 0 cap 4 rest 0 tries 11 floor 0", "1 3 3\n1 1 1\n1 2 1\n1 3 1\n"));
+                solved("volume 0 caps 4 4 rest 0 tries 11 floor 0", "1 3 3\n1 1 1\n1 2 1\n1 3 1\n"));
     check_split("percent 0 budget 100\n" + symmetric_banner + "2 2 2\n2 1\n2 2\n",
-                solved("volume 1 cap 2 rest 0 tries 11 floor 1", "2 2 3\n1 2 2\n2 1 1\n2 2 1\n"));
+                solved("volume 1 caps 2 2 rest 0 tries 11 floor 1", "2 2 3\n1 2 2\n2 1 1\n2 2 1\n"));
 }
 
 void check_splits(const std::string& data) {
     const std::string two = pattern_banner + "2 2 2\n2 2\n1 1\n";
-    const std::string solved = integer_banner + "% volume 0 cap 1 rest 0 tries 11 floor 0 complete\n"
+    const std::string solved = integer_banner + "% volume 0 caps 1 1 rest 0 tries 11 floor 0 complete\n"
                                                 "2 2 2\n1 1 1\n2 2 2\n";
     check_split("percent 0 budget 100\n" + two, solved);
     check_split("percent 000 budget 000000100\n" + two, solved);
-    check_split("percent 0 budget 3\n" + two, "none yet cap 1 rest 0 tries 3 floor 0\n");
-    check_split("percent 0 budget 0\n" + two, "none yet cap 1 rest 0 tries 0 floor 0\n");
+    check_split("percent 0 budget 3\n" + two, "none yet caps 1 1 rest 0 tries 3 floor 0\n");
+    check_split("percent 0 budget 0\n" + two, "none yet caps 1 1 rest 0 tries 0 floor 0\n");
     for (const char* line : {"", "percent 0 budget 100", "percent 0 budget 100\r\n",
                              "percent  0 budget 100\n", "percent 0 budget 100 \n",
                              " percent 0 budget 100\n", "Percent 0 budget 100\n",
@@ -1080,7 +1276,7 @@ void check_splits(const std::string& data) {
     check_split("percent 0 budget 1\n", "refused 1 at 0\n");
     check_split("percent 0 budget 1\n" + std::string(longest_text + 1, ' '), "refused 4 at 0\n");
     check_split("percent 0 budget 5\n" + pattern_banner + "2 3 0\n",
-                integer_banner + "% volume 0 cap 0 rest 0 tries 0 floor 0 complete\n2 3 0\n");
+                integer_banner + "% volume 0 caps 0 0 rest 0 tries 0 floor 0 complete\n2 3 0\n");
     const std::string start = "percent 0 budget 100\n";
     check_split(start + symmetric_real_banner + "2 2 2\n2 2 0\n1 1 -1e3\n", solved);
     check_split(start + symmetric_integer_banner + "2 2 2\n2 2 1\n1 1 1\n", solved);
@@ -1089,10 +1285,10 @@ void check_splits(const std::string& data) {
     check_split(start + symmetric_banner + "2 2 1\n1 2\n", "refused 16 at 57\n");
     check_split("percent 101 budget 0\n" + symmetric_banner + "2 2 1\n2 1\n", "refused 11 at 0\n");
     check_split("percent 0 budget 0\n" + symmetric_banner + "2 2 2\n2 1\n1 1\n",
-                "none yet cap 2 rest 0 tries 0 floor 1\n");
+                "none yet caps 2 2 rest 0 tries 0 floor 1\n");
     const std::string all = "percent 3 budget 1000000\n";
     std::string karate = split_with_both(all + file_bytes(data + "/karate.mtx"));
-    check(karate.find("% volume 8 cap 80 rest 34 tries 24934 floor 8 complete\n34 34 156\n") ==
+    check(karate.find("% volume 8 caps 80 80 rest 34 tries 24934 floor 8 complete\n34 34 156\n") ==
               integer_banner.size(), "split of karate");
     check(split_with_both(all + karate) == karate, "parts are unused");
 }
@@ -1119,29 +1315,50 @@ void check_texts(const std::string& data) {
 
 void check_c_function(bipartition_function* function) {
     std::vector<uint8_t> list = {0, 0, 1, 1}, parts(4, 77), figures(40, 77);
-    auto call = [&](uint64_t m, uint64_t cap, uint64_t budget, size_t list_length,
+    auto call = [&](uint64_t m, Caps caps, uint64_t budget, size_t list_length,
                     size_t parts_length, size_t figures_length) {
-        return function(m, 2, 2, list.data(), list_length, cap, budget, parts.data(),
-                        parts_length, figures.data(), figures_length);
+        return function(m, 2, 2, list.data(), list_length, caps[0], caps[1], budget,
+                        parts.data(), parts_length, figures.data(), figures_length);
     };
     const uint64_t over = 1000001;
-    check(call(0, 0, over, 0, 0, 0) == too_big, "C: 4");
-    check(call(2, 0, over, 3, 0, 0) == short_buffer, "C: 9 for the list");
-    check(call(1, 0, over, 4, 0, 0) == off_matrix + 256, "C: 5 at 1");
-    check(call(2, 2001, over, 4, 0, 0) == cap_range, "C: 11");
-    check(call(2, 0, over, 4, 0, 0) == no_split, "C: 12");
-    check(call(2, 1, over, 4, 0, 0) == budget_range, "C: 13");
-    check(call(2, 1, 3, 4, 1, 40) == short_buffer, "C: 9 for parts");
-    check(call(2, 1, 3, 4, 4, 31) == short_buffer, "C: 9 for figures");
-    check(call(2, 1, 3, 4, 4, 40) == 255, "C: none yet");
+    check(call(0, {0, 0}, over, 0, 0, 0) == too_big, "C: 4");
+    check(call(2, {0, 0}, over, 3, 0, 0) == short_buffer, "C: 9 for the list");
+    check(call(1, {0, 0}, over, 4, 0, 0) == off_matrix + 256, "C: 5 at 1");
+    check(call(2, {2001, 0}, over, 4, 0, 0) == cap_range, "C: 11 for cap 0");
+    check(call(2, {0, 2001}, over, 4, 0, 0) == cap_range, "C: 11 for cap 1");
+    check(call(2, {1, 0}, over, 4, 0, 0) == no_split, "C: 12");
+    check(call(2, {0, 1}, over, 4, 0, 0) == no_split, "C: 12, exchanged");
+    check(call(2, {2, 0}, over, 4, 0, 0) == budget_range, "C: 13");
+    check(call(2, {1, 1}, 3, 4, 1, 40) == short_buffer, "C: 9 for parts");
+    check(call(2, {1, 1}, 3, 4, 4, 31) == short_buffer, "C: 9 for figures");
+    check(call(2, {1, 1}, 3, 4, 4, 40) == 255, "C: none yet");
     check(parts == std::vector<uint8_t>(4, 77), "C: parts stay");
     check(figures == std::vector<uint8_t>(40, 77), "C: figures stay");
-    check(call(2, 1, 1000000, 4, 4, 40) == 0, "C: found");
-    std::vector<uint8_t> wanted(40, 77);
-    std::fill(wanted.begin(), wanted.begin() + 32, uint8_t(0));
-    wanted[8] = 11;
-    wanted[24] = 1;
-    check(parts == std::vector<uint8_t>{0, 1, 77, 77} && figures == wanted, "C: output");
+    auto expect = [&](Caps caps, uint8_t tries, std::vector<uint8_t> split) {
+        check(call(2, caps, 1000000, 4, 4, 40) == 0, "C: found");
+        std::vector<uint8_t> wanted(40, 77);
+        std::fill(wanted.begin(), wanted.begin() + 32, uint8_t(0));
+        wanted[8] = tries;
+        wanted[24] = 1;
+        check(parts == split && figures == wanted, "C: output");
+    };
+    expect({1, 1}, 11, {0, 1, 77, 77});
+    expect({0, 2}, 12, {1, 1, 77, 77});
+    expect({1, 2}, 12, {0, 1, 77, 77});
+}
+
+void check_calls() {
+    check_samples();
+    check_sample_bound();
+    check_unequal_samples();
+    check_refused_openings();
+    check_refused_caps();
+    check_states();
+    check_unequal_states();
+    check_accepted_states();
+    check_budgets();
+    check_c_function(plain_bipartition);
+    check_c_function(incremental_bipartition);
 }
 
 }  // namespace
@@ -1152,20 +1369,15 @@ int main(int arguments, char** words) {
         return 2;
     }
     const std::string data = words[1];
-    check_bounds(data + "/bounds.txt");
-    check_walks(data + "/walks.txt");
+    for (const char* caps : {"", "_unequal"}) {
+        check_bounds(data + "/bounds" + caps + ".txt");
+        check_walks(data + "/walks" + caps + ".txt");
+    }
     part_done("vectors");
     check_percents();
     check_all_caps();
     part_done("caps from a percentage");
-    check_samples();
-    check_sample_bound();
-    check_refused_openings();
-    check_states();
-    check_accepted_states();
-    check_budgets();
-    check_c_function(plain_bipartition);
-    check_c_function(incremental_bipartition);
+    check_calls();
     part_done("samples and refusals");
     check_texts(data);
     part_done("texts");
@@ -1176,6 +1388,9 @@ int main(int arguments, char** words) {
     part_done("random markings");
     check_brute_force(4000);
     part_done("brute force");
+    check_all_patterns();
+    check_random_tries(2000);
+    part_done("small patterns, one try at a time");
     check_matrices(data);
     part_done("matrices");
     std::cout << checked << " checked, " << differing << " differ\n";

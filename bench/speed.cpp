@@ -25,7 +25,8 @@ namespace {
 
 struct Subject {
     std::string name;
-    uint64_t rows = 0, columns = 0, cap = 0;
+    uint64_t rows = 0, columns = 0;
+    uint64_t cap = 0;            // of both parts
     std::vector<uint8_t> list;
     uint64_t nonzeros() const { return list.size() / 2; }
 };
@@ -52,8 +53,9 @@ uint64_t figure(const std::vector<uint8_t>& figures, size_t at) {
 Measure call(bipartition_function* function, const Subject& subject, uint64_t budget) {
     std::vector<uint8_t> parts(subject.nonzeros()), figures(32);
     uint64_t answer = function(subject.rows, subject.columns, subject.nonzeros(),
-                               subject.list.data(), subject.list.size(), subject.cap, budget,
-                               parts.data(), parts.size(), figures.data(), figures.size());
+                               subject.list.data(), subject.list.size(), subject.cap,
+                               subject.cap, budget, parts.data(), parts.size(),
+                               figures.data(), figures.size());
     Measure measure;
     measure.none_yet = answer == 255;
     measure.tries = measure.none_yet ? budget : figure(figures, 1);

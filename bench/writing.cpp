@@ -27,7 +27,7 @@ std::string listing_with(uint64_t figure) {
         parts.push_back(uint8_t(odd % 2));
     }
     return baseline::written_text({120, 120, 2000, bytes.data(), bytes.size()}, parts.data(),
-                                  {figure, figure, figure, figure, figure, true});
+                                  {figure, {figure, figure}, figure, figure, figure, true});
 }
 
 // The input of `listing`: a number of seven digits on a line, and a text.

@@ -1,5 +1,6 @@
-/* A host in C: splits the 2 by 2 diagonal and each Matrix Market pattern that is named, at 3 percent, and prints parts, loads
- * and volume. It counts the cut lines itself, and ends with status 1 if they are not the volume that the function wrote. */
+/* A host in C: splits the 2 by 2 diagonal, a row of three with one nonzero apart, under equal and unequal caps, and each Matrix
+ * Market pattern that is named, at 3 percent, and prints parts, loads and volume. It counts the cut lines itself, and ends with
+ * status 1 if they are not the volume that the function wrote, or if a part has more nonzeros than its cap. */
 #include "gulzoreno.h"
 
 #include <ctype.h>
@@ -35,17 +36,18 @@ static unsigned cut_lines(const struct pattern *p, const uint8_t *parts)
     return cut;
 }
 
-/* Splits a pattern and prints what comes of it. Answers 0 if the function's volume is the number of cut lines. */
-static int split(const char *name, const struct pattern *p, uint64_t cap, uint64_t budget)
+/* Splits a pattern and prints what comes of it. Answers 0 if the function's volume is the number of cut lines and both caps are
+ * met. */
+static int split(const char *name, const struct pattern *p, uint64_t cap0, uint64_t cap1, uint64_t budget)
 {
     uint8_t parts[GULZORENO_MOST_NONZEROS];
     uint8_t figures[GULZORENO_FIGURES];
     unsigned load[2] = {0, 0};
-    uint64_t answer = gulzoreno_bipartition(p->m, p->n, p->nonzeros, p->list, sizeof p->list, cap, budget,
+    uint64_t answer = gulzoreno_bipartition(p->m, p->n, p->nonzeros, p->list, sizeof p->list, cap0, cap1, budget,
                                             parts, sizeof parts, figures, sizeof figures);
 
-    printf("%s: %u by %u, %u nonzeros, cap %u, budget %u\n", name, (unsigned)p->m, (unsigned)p->n,
-           (unsigned)p->nonzeros, (unsigned)cap, (unsigned)budget);
+    printf("%s: %u by %u, %u nonzeros, caps %u and %u, budget %u\n", name, (unsigned)p->m, (unsigned)p->n,
+           (unsigned)p->nonzeros, (unsigned)cap0, (unsigned)cap1, (unsigned)budget);
     if (answer == GULZORENO_NONE_YET) {
         printf("  none yet\n");
         return 0;
@@ -66,7 +68,7 @@ static int split(const char *name, const struct pattern *p, uint64_t cap, uint64
            figure(figures, GULZORENO_AT_COMPLETE) ? "complete" : "stopped");
     unsigned cut = cut_lines(p, parts);
     printf("  cut lines counted here: %u\n", cut);
-    return cut != volume || load[0] > cap || load[1] > cap;
+    return cut != volume || load[0] > cap0 || load[1] > cap1;
 }
 
 /* By row, and then by column. */
@@ -135,7 +137,8 @@ static int read_pattern(const char *path, struct pattern *p)
     return bad;
 }
 
-/* The cap from a percentage: the whole part of (100 + percent) * ceiling(nonzeros / 2) / 100. It is never too low for a split. */
+/* The cap of both parts from a percentage: the whole part of (100 + percent) * ceiling(nonzeros / 2) / 100. It is never too low
+ * for a split. */
 static uint64_t cap_from_percent(uint64_t nonzeros, uint64_t percent)
 {
     return (100 + percent) * ((nonzeros + 1) / 2) / 100;
@@ -144,18 +147,22 @@ static uint64_t cap_from_percent(uint64_t nonzeros, uint64_t percent)
 int main(int argc, char **argv)
 {
     static const struct pattern diagonal = {2, 2, 2, {0, 0, 1, 1}};
+    static const struct pattern apart = {2, 4, 4, {0, 0, 0, 1, 0, 2, 1, 3}};
     static struct pattern p;
-    int wrong = split("the 2 by 2 diagonal", &diagonal, 1, 100);
+    int wrong = split("the 2 by 2 diagonal", &diagonal, 1, 1, 100);
 
-    wrong |= split("the 2 by 2 diagonal", &diagonal, 1, 3);
-    wrong |= split("the 2 by 2 diagonal", &diagonal, 0, 100);
+    wrong |= split("the 2 by 2 diagonal", &diagonal, 1, 1, 3);
+    wrong |= split("the 2 by 2 diagonal", &diagonal, 0, 0, 100);
+    wrong |= split("three in a row, one apart", &apart, 2, 2, 100);
+    wrong |= split("three in a row, one apart", &apart, 1, 3, 100);
     for (int k = 1; k < argc; k++) {
         if (read_pattern(argv[k], &p) != 0) {
             fprintf(stderr, "%s: no pattern that fits\n", argv[k]);
             return 1;
         }
         const char *name = strrchr(argv[k], '/');
-        wrong |= split(name == NULL ? argv[k] : name + 1, &p, cap_from_percent(p.nonzeros, 3), GULZORENO_MOST_BUDGET);
+        uint64_t cap = cap_from_percent(p.nonzeros, 3);
+        wrong |= split(name == NULL ? argv[k] : name + 1, &p, cap, cap, GULZORENO_MOST_BUDGET);
     }
     return wrong;
 }

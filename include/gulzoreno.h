@@ -1,8 +1,8 @@
 /* Exact bipartitioning of a sparse pattern: the function for a host in C.
  *
- * It divides the nonzeros of a matrix over two parts, 0 and 1. No part gets more nonzeros than the cap. A line, which is a row
- * or a column, is cut if it has nonzeros in both parts, and the volume of a split is its number of cut lines. A complete search
- * gives a split of the least volume under the cap.
+ * It divides the nonzeros of a matrix over two parts, 0 and 1. No part gets more nonzeros than its cap; the two caps may differ.
+ * A line, which is a row or a column, is cut if it has nonzeros in both parts, and the volume of a split is its number of cut
+ * lines. A complete search gives a split of the least volume under the caps.
  *
  * Build the archive with `rt staticlib gulzoreno` and link target/staticlib/libgulzoreno.a. It needs memcpy and memset of the C
  * library and nothing else. */
@@ -34,8 +34,8 @@ extern "C" {
  *    9  short buffer  list has fewer than 2 * nonzeros bytes
  *    5  off matrix    row not below m, or column not below n
  *   10  order         a nonzero does not come after the one before it, by row and then by column
- *   11  cap           cap outside its range
- *   12  no split      nonzeros above 2 * cap: no split meets the cap
+ *   11  cap           cap0 or cap1 outside its range
+ *   12  no split      nonzeros above cap0 + cap1: no split meets both caps
  *   13  budget        budget outside its range
  *    9  short buffer  parts has fewer than `nonzeros` bytes, or figures fewer than 32 */
 #define GULZORENO_REFUSAL(answer) ((answer) % 256)
@@ -62,13 +62,13 @@ extern "C" {
  *   nonzeros              0 to 2000, and at most m * n
  *   list, list_len        the nonzeros: a row byte and a column byte for each, counted from 0, strictly rising by row and then
  *                         column. Bytes past the first 2 * nonzeros are not looked at
- *   cap                   most nonzeros of a part, 0 to 2000
+ *   cap0, cap1            most nonzeros of part 0 and of part 1, 0 to 2000 each
  *   budget                most tries, 0 to 1000000. A search makes all of them unless it is complete before
  *   parts, parts_len      out: the part, 0 or 1, of each nonzero in the list's order. Bytes past the first `nonzeros` stay
  *   figures, figures_len  out: 32 bytes. Bytes past them stay
  *       volume            cut lines of the split written
  *       tries             tries made
- *       floor             no split that meets the cap has a lower volume
+ *       floor             no split that meets both caps has a lower volume
  *       complete          1 if the search is complete, and then the volume is the least and equals the floor; 0 otherwise
  *
  * Answers 0 with parts and figures written, or 255, or a refusal; with the last two no byte of parts or figures is changed.
@@ -82,7 +82,7 @@ extern "C" {
  * each with parts and figures of its own. Allow it 64 kilobytes of stack. */
 uint64_t gulzoreno_bipartition(uint64_t m, uint64_t n, uint64_t nonzeros,
                                const uint8_t *list, size_t list_len,
-                               uint64_t cap, uint64_t budget,
+                               uint64_t cap0, uint64_t cap1, uint64_t budget,
                                uint8_t *parts, size_t parts_len,
                                uint8_t *figures, size_t figures_len);
 

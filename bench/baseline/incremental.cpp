@@ -55,7 +55,7 @@ int place_of(int line) { return line % stride; }
 // reverse of the order in which they were placed.
 class Live {
 public:
-    Live(const Pattern& pattern, int cap) : cap(cap) {
+    Live(const Pattern& pattern, const Caps& caps) : cap{int(caps[0]), int(caps[1])} {
         for (int nonzero = 0; nonzero < pattern.nonzeros; ++nonzero) {
             int row = pattern.row[nonzero], column = pattern.column[nonzero] - pattern.rows;
             lines[row].crossing.add(column);
@@ -73,7 +73,8 @@ public:
     bool fits(int line, Mark mark) const {
         if (mark == mark_cut) return true;
         const Line& it = lines[line];
-        return it.taken[1 - mark] == 0 && taken[mark] + it.size - it.taken[mark] <= cap;
+        return it.taken[1 - mark] == 0 &&
+               taken[mark] + it.size - it.taken[mark] <= cap[mark];
     }
 
     // L1 + L2 with `line` marked, if that fits.
@@ -229,7 +230,7 @@ private:
     // Lines leaning to `part` to be struck out, most untaken first; once
     // `enough` are struck, some number not below it.
     int strikes(int part, int enough) const {
-        int excess = leaning_sum[part] - (cap - taken[part]);
+        int excess = leaning_sum[part] - (cap[part] - taken[part]);
         int struck = 0;
         for (int size = widest; excess > 0 && struck < enough; --size) {
             int with = lines_with[part][size];
@@ -309,7 +310,7 @@ private:
         row_of[column] = LineNumber(row);
     }
 
-    int cap;
+    std::array<int, 2> cap;                        // by part
     int widest = 0;                                // the size of the largest line
     std::array<Line, 2 * stride> lines;
     std::array<Set, 2> unmarked_lines;             // by side
@@ -331,8 +332,9 @@ int live_number(const Pattern& pattern, int line) {
 class Search {
 public:
     Search(const Pattern& pattern, const Record& record)
-        : live(pattern, int(record.cap)), depth(int(pattern.depth())),
-          best_count(int(record.best_count)), complete(record.complete) {
+        : live(pattern, record.caps), unequal(record.caps[0] != record.caps[1]),
+          depth(int(pattern.depth())), best_count(int(record.best_count)),
+          complete(record.complete) {
         for (int at = 0; at < depth; ++at)
             order[at] = LineNumber(live_number(pattern, pattern.order[at]));
         if (complete) return;
@@ -388,8 +390,8 @@ private:
     // Puts the last mark one allowed step later; false if it is cut already.
     bool put_later() {
         if (last == mark_cut) return false;
-        bool earlier = live.cut_lines() < placed;
-        last = last == mark_0 && earlier ? mark_1 : mark_cut;
+        bool one_allowed = unequal || live.cut_lines() < placed;   // an earlier 0 or 1
+        last = last == mark_0 && one_allowed ? mark_1 : mark_cut;
         return true;
     }
 
@@ -433,6 +435,7 @@ private:
 
     Live live;
     std::array<LineNumber, most_lines> order;
+    bool unequal;          // the caps: mark 1 is allowed before any 0
     int depth;
     int placed = 0;        // marks of the trail that are placed
     Mark last = mark_0;    // the mark after them
@@ -450,9 +453,9 @@ public:
         return uint64_t(Search(pattern, record).floor());
     }
 
-    Evaluation evaluate(const Pattern& pattern, uint64_t cap,
+    Evaluation evaluate(const Pattern& pattern, const Caps& caps,
                         const LineMarks& marks) const override {
-        Live live(pattern, int(cap));
+        Live live(pattern, caps);
         for (int line = 0; line < pattern.lines(); ++line) {
             if (marks[line] == unmarked) continue;
             int number = live_number(pattern, line);

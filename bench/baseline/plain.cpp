@@ -13,8 +13,8 @@ enum Condition : uint8_t { leaning_0, leaning_1, torn, untouched, marked };
 // Everything one evaluation works with, by line number.
 class Evaluator {
 public:
-    Evaluator(const Pattern& pattern, int cap, const LineMarks& marks)
-        : pattern(pattern), cap(cap), marks(marks) {}
+    Evaluator(const Pattern& pattern, const Caps& caps, const LineMarks& marks)
+        : pattern(pattern), cap{int(caps[0]), int(caps[1])}, marks(marks) {}
 
     Evaluation evaluate() {
         result.valid = count_taken();
@@ -40,7 +40,7 @@ private:
             if (by_0) add_taken(nonzero, 0);
             if (by_1) add_taken(nonzero, 1);
         }
-        return apart && result.taken[0] <= cap && result.taken[1] <= cap;
+        return apart && result.taken[0] <= cap[0] && result.taken[1] <= cap[1];
     }
 
     void add_taken(int nonzero, int part) {
@@ -91,7 +91,7 @@ private:
         std::array<int, most_side + 1> lines_with{};
         for (int line = 0; line < pattern.lines(); ++line)
             if (condition[line] == part) ++lines_with[untaken[line]];
-        int excess = leaning_nonzeros[part] - (cap - result.taken[part]);
+        int excess = leaning_nonzeros[part] - (cap[part] - result.taken[part]);
         int struck = 0;
         for (int size = most_side; size > 0; --size)
             for (int line = 0; line < lines_with[size] && excess > 0; ++line) {
@@ -127,7 +127,7 @@ private:
     }
 
     const Pattern& pattern;
-    int cap;
+    std::array<int, 2> cap;   // by part
     const LineMarks& marks;
     Evaluation result;
     std::array<std::array<int, most_lines>, 2> taken{};
@@ -141,31 +141,37 @@ private:
     std::array<bool, most_lines> entered;
 };
 
-Evaluation evaluate_trail(const Pattern& pattern, uint64_t cap, const Marking& trail) {
+Evaluation evaluate_trail(const Pattern& pattern, const Caps& caps, const Marking& trail) {
     LineMarks marks;
     marks.fill(unmarked);
     for (size_t at = 0; at < trail.size(); ++at) marks[pattern.order[at]] = trail[at];
-    return Evaluator(pattern, int(cap), marks).evaluate();
+    return Evaluator(pattern, caps, marks).evaluate();
+}
+
+// Whether the last mark may be 1: with equal caps only after an earlier 0 or 1.
+bool one_allowed(const Caps& caps, const Marking& trail) {
+    return caps[0] != caps[1] ||
+           std::any_of(trail.begin(), trail.end() - 1,
+                       [](Mark mark) { return mark != mark_cut; });
 }
 
 // Puts the last mark one allowed step later; false if it is cut already.
-bool put_later(Marking& trail) {
+bool put_later(const Caps& caps, Marking& trail) {
     Mark last = trail.back();
     if (last == mark_cut) return false;
-    bool earlier = std::any_of(trail.begin(), trail.end() - 1,
-                               [](Mark mark) { return mark != mark_cut; });
-    trail.back() = last == mark_0 && earlier ? mark_1 : mark_cut;
+    trail.back() = last == mark_0 && one_allowed(caps, trail) ? mark_1 : mark_cut;
     return true;
 }
 
 void advance(Record& record) {
-    while (!record.trail.empty() && !put_later(record.trail)) record.trail.pop_back();
+    while (!record.trail.empty() && !put_later(record.caps, record.trail))
+        record.trail.pop_back();
     record.complete = record.trail.empty();
 }
 
 void try_once(const Pattern& pattern, Record& record) {
     ++record.tries;
-    Evaluation found = evaluate_trail(pattern, record.cap, record.trail);
+    Evaluation found = evaluate_trail(pattern, record.caps, record.trail);
     bool stands = found.valid && uint64_t(found.bound()) < record.best_count;
     if (stands && record.trail.size() < pattern.depth()) {
         record.trail.push_back(mark_0);
@@ -188,21 +194,21 @@ public:
     uint64_t floor(const Pattern& pattern, const Record& record) const override {
         uint64_t least = record.best_count;
         auto look_at = [&](const Marking& open) {
-            Evaluation found = evaluate_trail(pattern, record.cap, open);
+            Evaluation found = evaluate_trail(pattern, record.caps, open);
             if (found.valid) least = std::min(least, uint64_t(found.bound()));
         };
         if (record.complete) return least;
         look_at(record.trail);
         for (size_t length = 1; length <= record.trail.size(); ++length) {
             Marking open(record.trail.begin(), record.trail.begin() + length);
-            while (put_later(open)) look_at(open);
+            while (put_later(record.caps, open)) look_at(open);
         }
         return least;
     }
 
-    Evaluation evaluate(const Pattern& pattern, uint64_t cap,
+    Evaluation evaluate(const Pattern& pattern, const Caps& caps,
                         const LineMarks& marks) const override {
-        return Evaluator(pattern, int(cap), marks).evaluate();
+        return Evaluator(pattern, caps, marks).evaluate();
     }
 };
 

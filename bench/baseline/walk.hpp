@@ -1,7 +1,8 @@
-// The walk of document 01 (exact bipartitioning of a sparse pattern), twice,
-// behind one interface. walk.cpp holds what both share: the checks with their
-// refusals, the opening, the showing and the C functions. plain.cpp and
-// incremental.cpp each hold one way of making tries and finding the floor.
+// The walk of document 01 (exact bipartitioning of a sparse pattern), with the
+// two caps of document 02, twice, behind one interface. walk.cpp holds what both
+// share: the checks with their refusals, the opening, the showing and the C
+// functions. plain.cpp and incremental.cpp each hold one way of making tries and
+// finding the floor.
 #pragma once
 
 #include <array>
@@ -37,6 +38,11 @@ using Mark = uint8_t;
 constexpr Mark mark_0 = 0, mark_1 = 1, mark_cut = 2, unmarked = 3;
 using Marking = std::vector<Mark>;
 
+// By part: the most nonzeros it may have. If the caps are unequal, mark 1 is
+// allowed before any 0.
+using Caps = std::array<uint64_t, 2>;
+inline Caps equal_caps(uint64_t cap) { return {cap, cap}; }
+
 // A list as a caller lends it: nothing about it is known yet.
 struct List {
     uint64_t rows, columns, nonzeros;
@@ -56,7 +62,8 @@ struct Pattern {
 
 // The running search.
 struct Record {
-    uint64_t rows = 0, columns = 0, nonzeros = 0, cap = 0;
+    uint64_t rows = 0, columns = 0, nonzeros = 0;
+    Caps caps = {0, 0};
     uint64_t tries = 0;
     uint64_t best_count = 0;
     bool has_best = false;
@@ -92,21 +99,20 @@ public:
     virtual void make_tries(const Pattern&, Record&, uint64_t budget) const = 0;
     virtual uint64_t floor(const Pattern&, const Record&) const = 0;
     // For tests; an invalid marking may come back with only `valid` set.
-    virtual Evaluation evaluate(const Pattern&, uint64_t cap,
-                                const LineMarks&) const = 0;
+    virtual Evaluation evaluate(const Pattern&, const Caps&, const LineMarks&) const = 0;
 };
 
 const Walk& plain();
 const Walk& incremental();
 
-// The cap from a percentage and the rest that was cut off:
+// The cap of both parts from a percentage and the rest that was cut off:
 // (100 + percent) * ceiling(nonzeros / 2) = 100 * cap + rest, rest under 100.
 struct Capped {
     uint64_t cap = 0, rest = 0;
 };
 
 // Checks 4, then 11. The cap is at least half of the nonzeros, so an opening
-// with it is never refused 12.
+// with it for both parts is never refused 12.
 Answer cap_from_percent(uint64_t nonzeros, uint64_t percent, Capped&);
 
 // Checks 4, 9, then per nonzero 5 and 10.
@@ -114,7 +120,7 @@ Answer check_list(const List&);
 Pattern take_apart(const List& checked);
 
 // The three calls. What is refused changes nothing.
-Answer open(const List&, uint64_t cap, Record&);
+Answer open(const List&, const Caps&, Record&);
 Answer run(const Walk&, const List&, Record&, uint64_t budget);
 Answer show(const Walk&, const List&, const Record&, uint8_t* parts,
             size_t parts_length, Shown&);
@@ -123,7 +129,7 @@ Answer show(const Walk&, const List&, const Record&, uint8_t* parts,
 uint64_t volume(const Pattern&, const uint8_t* parts);
 
 // The function for a host written in C, with either walk.
-uint64_t bipartition(const Walk&, const List&, uint64_t cap, uint64_t budget,
+uint64_t bipartition(const Walk&, const List&, const Caps&, uint64_t budget,
                      uint8_t* parts, size_t parts_length, uint8_t* figures,
                      size_t figures_length);
 
@@ -133,7 +139,7 @@ extern "C" {
 
 using bipartition_function = uint64_t(uint64_t m, uint64_t n, uint64_t nonzeros,
                                       const uint8_t* list, size_t list_len,
-                                      uint64_t cap, uint64_t budget,
+                                      uint64_t cap0, uint64_t cap1, uint64_t budget,
                                       uint8_t* parts, size_t parts_len,
                                       uint8_t* figures, size_t figures_len);
 

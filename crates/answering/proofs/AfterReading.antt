@@ -11,12 +11,13 @@ use Rattle.counting.proofs.Joined.{pick-false}
 use Rattle.model.specs.declared.Word.the-variants.{ShortBuffer, Cap, Budget}
 use Rattle.model.specs.declared.Verdict.{Verdict}
 use Rattle.model.specs.declared.Verdict.the-variants.{Accepted, Refused}
+use Rattle.model.specs.declared.Caps.{Caps}
 use Rattle.model.specs.declared.Search.{Search}
 use Rattle.model.specs.declared.RunAnswer.{RunAnswer}
 use Rattle.model.specs.declared.ShowAnswer.{ShowAnswer}
 use Rattle.model.specs.declared.ShowAnswer.the-variants as show-answer
 use Rattle.model.specs.Limits.{nonzeroLimit, percentLimit, budgetLimit}
-use Rattle.model.specs.Split.{capFromPercent, restFromPercent}
+use Rattle.model.specs.Split.{bothCaps, capFromPercent, restFromPercent}
 use Rattle.model.specs.Calls.{listVerdict, openVerdict, capCall, openCall, ended}
 use Rattle.model.proofs.Theorems.Accepted.{list-accepted}
 use Rattle.model.proofs.Theorems.Checks.{refused-not}
@@ -72,37 +73,37 @@ module _ (text : List ℕ) (percent budget : ℕ) (accepted : readVerdict text l
 
   -- with E in its range the search opens
   module _ (low : percent ≤ percentLimit) where
-    abbrev cap : ℕ
-    cap = capFromPercent nonzeros percent
+    abbrev caps : Caps
+    caps = bothCaps (capFromPercent nonzeros percent)
 
     abbrev rest : ℕ
     rest = restFromPercent nonzeros percent
 
-    capped : openVerdict m n nonzeros list cap ≡ Accepted
+    capped : openVerdict m n nonzeros list caps ≡ Accepted
     capped = percent-opens m n nonzeros list percent few low ∙ listed
 
     abbrev After : Search
-    After = Run m n nonzeros list cap budget capped .search
+    After = Run m n nonzeros list caps budget capped .search
 
-    after-run : patternAnswer text percent budget ≡ afterRun rest m n nonzeros list (Run m n nonzeros list cap budget capped .answer) After
+    after-run : patternAnswer text percent budget ≡ afterRun rest m n nonzeros list (Run m n nonzeros list caps budget capped .answer) After
     unfolding openCall ranAnswer
     after-run =
         after-cap
-        ∙ capped-opened m n nonzeros list budget cap rest (cap-given nonzeros percent few low)
-        ∙ opened-run (openCall m n nonzeros list cap) (openCall m n nonzeros list cap) rest m n nonzeros list budget refl capped
+        ∙ capped-opened m n nonzeros list budget _ rest (cap-given nonzeros percent few low)
+        ∙ opened-run (openCall m n nonzeros list caps) (openCall m n nonzeros list caps) rest m n nonzeros list budget refl capped
 
     -- B out of its range is refused 13
     pub budget-refused : budgetLimit < budget → patternAnswer text percent budget ≡ gives-refusal Budget 0
     unfolding afterRun
-    budget-refused over = after-run ∙ ap (λ (a : RunAnswer). afterRun rest m n nonzeros list a After) (run-refused m n nonzeros list cap budget capped over)
+    budget-refused over = after-run ∙ ap (λ (a : RunAnswer). afterRun rest m n nonzeros list a After) (run-refused m n nonzeros list caps budget capped over)
 
     -- with B in its range nothing is refused
     module _ (within : budget ≤ budgetLimit) (out : List ℕ) (room : outputRoom ≤ length out) where
       abbrev Showing : ShowAnswer
-      Showing = Shown m n nonzeros list cap budget capped within partsRoom
+      Showing = Shown m n nonzeros list caps budget capped within partsRoom
 
       abbrev Parts : List ℕ
-      Parts = Left m n nonzeros list cap budget capped within partsRoom
+      Parts = Left m n nonzeros list caps budget capped within partsRoom
 
       parts-room : nonzeros ≤ length partsRoom
       parts-room = omega (arith, few, length-replicate {A = ℕ} nonzeroLimit 0)
@@ -111,7 +112,7 @@ module _ (text : List ℕ) (percent budget : ℕ) (accepted : readVerdict text l
       split-written : (volume floor : ℕ) → Showing ≡ show-answer.Split volume floor → (f : Figures) → writeCall m n nonzeros list Parts f out ≡ write-answer.Written (length (textOf m n nonzeros list Parts f))
       unfolding writeCall answerWritten lengthAnswer
       split-written volume floor e f =
-          let fine = read-writes text listRoom partsRoom m n nonzeros _ read-is Parts (parts-fine m n nonzeros list cap budget capped within partsRoom parts-room volume floor e) in
+          let fine = read-writes text listRoom partsRoom m n nonzeros _ read-is Parts (parts-fine m n nonzeros list caps budget capped within partsRoom parts-room volume floor e) in
           let written = textOf m n nonzeros list Parts f in
           ap (λ (v : Verdict). answerWritten v written out) fine
           ∙ pick-false
@@ -125,9 +126,9 @@ module _ (text : List ℕ) (percent budget : ℕ) (accepted : readVerdict text l
           let f = figuresOf After rest volume floor in
           split m n nonzeros list Parts f
           (ap (λ (w : WriteAnswer). afterWriting w (textOf m n nonzeros list Parts f)) (split-written volume floor e f))
-      shown-tells (show-answer.NoneYet floor) e = none-yet (After .cap) rest (After .tries) floor refl
+      shown-tells (show-answer.NoneYet floor) e = none-yet (After .cap0) (After .cap1) rest (After .tries) floor refl
       shown-tells (show-answer.Refused word place) e =
-          refused-not (sym (told m n nonzeros list cap budget capped within partsRoom .refused word place .0 e) ∙ shows m n nonzeros list cap budget capped within partsRoom parts-room)
+          refused-not (sym (told m n nonzeros list caps budget capped within partsRoom .refused word place .0 e) ∙ shows m n nonzeros list caps budget capped within partsRoom parts-room)
 
       run-tells : (done : Bool) → NoRefusal (printedAs (afterRun rest m n nonzeros list (ended done) After) out)
       unfolding ended afterRun searchAnswer
@@ -138,5 +139,5 @@ module _ (text : List ℕ) (percent budget : ℕ) (accepted : readVerdict text l
       text-answered =
           subst
           (λ a. NoRefusal (printedAs a out))
-          (sym (after-run ∙ ap (λ (a : RunAnswer). afterRun rest m n nonzeros list a After) (run-ended m n nonzeros list cap budget capped within)))
+          (sym (after-run ∙ ap (λ (a : RunAnswer). afterRun rest m n nonzeros list a After) (run-ended m n nonzeros list caps budget capped within)))
           (run-tells _)

@@ -1,4 +1,4 @@
--- Every answer has at most 20,206 bytes, and so fits the program's output.
+-- Every answer has at most 20,228 bytes, and so fits the program's output.
 -- Assumes nothing.
 use mathlib.Core.List.{List, _++_}
 use mathlib.Core.Path.{_≡_, refl}
@@ -27,10 +27,10 @@ refused-short word place =
     omega
     (arith, length-append (figureText #refused (refusalNumber word)) (#at ++ numberText place 10), figure-short #refused (refusalNumber word), length-append #at (numberText place 10), number-short place 10)
 
-none-short : (cap rest tries floor : ℕ) → length (noneText cap rest tries floor) ≤ writtenMost
+none-short : (cap0 cap1 rest tries floor : ℕ) → length (noneText cap0 cap1 rest tries floor) ≤ writtenMost
 unfolding noneText
-none-short cap rest tries floor =
-    omega (arith, length-append #none (figuresText cap rest tries floor 10), figures-short cap rest tries floor 10)
+none-short cap0 cap1 rest tries floor =
+    omega (arith, length-append #none (figuresText cap0 cap1 rest tries floor 10), figures-short cap0 cap1 rest tries floor 10)
 
 module _ (out : List ℕ) where
   after-short :
@@ -51,7 +51,7 @@ module _ (out : List ℕ) where
       (writeVerdict m n nonzeros list parts)
       (textOf m n nonzeros list parts f)
       (λ e. text-short (fine-split m n nonzeros list parts e) f)
-  printed-short (gives-none cap rest tries floor) = none-short cap rest tries floor
+  printed-short (gives-none cap0 cap1 rest tries floor) = none-short cap0 cap1 rest tries floor
   printed-short (gives-refusal word place) = refused-short word place
 
 -- an answer is never longer, whatever the input and the output

@@ -44,7 +44,7 @@ module _ (out other : List ℕ) (room : outputRoom ≤ length out) (too : output
   unfolding printedAs
   printed-same (gives-split m n nonzeros list parts f) =
       ap (λ (w : WriteAnswer). afterWriting w (textOf m n nonzeros list parts f)) (write-same m n nonzeros list parts f)
-  printed-same (gives-none cap rest tries floor) = refl
+  printed-same (gives-none cap0 cap1 rest tries floor) = refl
   printed-same (gives-refusal word place) = refl
 
   -- the answer is the same in any two outputs with room enough

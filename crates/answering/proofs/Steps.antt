@@ -27,6 +27,7 @@ use Rattle.model.specs.declared.RunAnswer.the-variants as run-answer
 use Rattle.model.specs.declared.Ran.{Ran}
 use Rattle.model.specs.declared.ShowAnswer.{ShowAnswer}
 use Rattle.model.specs.declared.ShowAnswer.the-variants as show-answer
+use Rattle.model.specs.Split.{bothCaps}
 use Rattle.model.specs.Calls.{capCall, openCall, runCall, showCall, showParts, completeNumber}
 use Rattle.model.proofs.ShowAnswer.{enum as show-enum}
 use Rattle.model.proofs.RunAnswer.{enum as run-enum}
@@ -69,24 +70,24 @@ byte-inside l i b e h =
 
 pub figures-are :
     (s : Search) (rest volume floor complete : ℕ) → complete ≡ completeNumber (s .complete) →
-    _≡_ {A = Figures} (record { volume = volume; cap = s .cap; rest = rest; tries = s .tries; floor = floor; complete = complete }) (figuresOf s rest volume floor)
+    _≡_ {A = Figures} (record { volume = volume; cap0 = s .cap0; cap1 = s .cap1; rest = rest; tries = s .tries; floor = floor; complete = complete }) (figuresOf s rest volume floor)
 unfolding figuresOf
 figures-are s rest volume floor complete e = rw e
 
 -- the line of an answer without a split
-module _ (cap rest tries : ℕ) where
-  no-line : (a : ShowAnswer) → tagOf (declared show-enum) a ≡ 0 → [] ≡ lineText a cap rest tries
+module _ (cap0 cap1 rest tries : ℕ) where
+  no-line : (a : ShowAnswer) → tagOf (declared show-enum) a ≡ 0 → [] ≡ lineText a cap0 cap1 rest tries
   unfolding lineText
   no-line (show-answer.Split volume floor) e = refl
   no-line (show-answer.NoneYet floor) e = no-way (omega arith)
   no-line (show-answer.Refused word place) e = no-way (omega arith)
 
-  pub line-split : (a : ShowAnswer) (out : List ℕ) → tagOf (declared show-enum) a ≡ 0 → Puts out 0 (lineText a cap rest tries) out 0
+  pub line-split : (a : ShowAnswer) (out : List ℕ) → tagOf (declared show-enum) a ≡ 0 → Puts out 0 (lineText a cap0 cap1 rest tries) out 0
   line-split a out h = puts-as (no-line a h) (puts-none out 0)
 
   pub line-as :
-      {a x : ShowAnswer} {out new : List ℕ} {r : ℕ} → a ≡ x → Puts out 0 (lineText x cap rest tries) new r → Puts out 0 (lineText a cap rest tries) new r
-  line-as e p = puts-as (ap (λ (y : ShowAnswer). lineText y cap rest tries) (sym e)) p
+      {a x : ShowAnswer} {out new : List ℕ} {r : ℕ} → a ≡ x → Puts out 0 (lineText x cap0 cap1 rest tries) new r → Puts out 0 (lineText a cap0 cap1 rest tries) new r
+  line-as e p = puts-as (ap (λ (y : ShowAnswer). lineText y cap0 cap1 rest tries) (sym e)) p
 
 -- a split written, or the writer's refusal
 module _ (m n nonzeros : ℕ) (list parts : List ℕ) (f : Figures) (out : List ℕ) (w : WriteAnswer)
@@ -127,14 +128,14 @@ module _ (s : Search) (rest m n nonzeros : ℕ) (list parts : List ℕ) (a : Sho
 
   line-so :
       (out : List ℕ) (x : ShowAnswer) → OneOf (1 ∷ 2 ∷ []) (tagOf (declared show-enum) x) →
-      lineText x (s .cap) rest (s .tries) ≡ printedAs (afterShowing rest m n nonzeros list x s parts) out
+      lineText x (s .cap0) (s .cap1) rest (s .tries) ≡ printedAs (afterShowing rest m n nonzeros list x s parts) out
   unfolding lineText afterShowing printedAs
   line-so out (show-answer.Split volume floor) h = ⊎-elim (λ e. no-way (omega arith)) (λ e. no-way (omega arith)) h
   line-so out (show-answer.NoneYet floor) h = refl
   line-so out (show-answer.Refused word place) h = refl
 
   pub shown-line :
-      {out new : List ℕ} {r : ℕ} → OneOf (1 ∷ 2 ∷ []) (tagOf (declared show-enum) a) → Puts out 0 (lineText a (s .cap) rest (s .tries)) new r →
+      {out new : List ℕ} {r : ℕ} → OneOf (1 ∷ 2 ∷ []) (tagOf (declared show-enum) a) → Puts out 0 (lineText a (s .cap0) (s .cap1) rest (s .tries)) new r →
       Puts out 0 (printedAs (searchAnswer rest m n nonzeros list s) out) new r
   shown-line {out} h p = prints-answer search-shown (puts-as (line-so out a h) p)
 
@@ -191,7 +192,7 @@ module _ (opened call : Opened) (rest m n nonzeros : ℕ) (list : List ℕ) (bud
 module _ {a : CapAnswer} (m n nonzeros : ℕ) (list : List ℕ) (budget : ℕ) where
   pub capped-opened :
       (cap rest : ℕ) → a ≡ cap-answer.Capped cap rest →
-      afterCap a m n nonzeros list budget ≡ openedAnswer rest m n nonzeros list (openCall m n nonzeros list cap) budget
+      afterCap a m n nonzeros list budget ≡ openedAnswer rest m n nonzeros list (openCall m n nonzeros list (bothCaps cap)) budget
   unfolding afterCap
   capped-opened cap rest e = ap (λ (x : CapAnswer). afterCap x m n nonzeros list budget) e
 

@@ -54,9 +54,9 @@ module _ (word : Word) (place : ℕ) where
       ∙ ap (λ x. x .value) (number-first line 8 (length line) number held (omega (arith, number-range word .1)) inside)
 
 -- "none yet" and a split are no refusals
-none-tells : (cap rest tries floor : ℕ) → refusalIn (noneText cap rest tries floor) ≡ 0
+none-tells : (cap0 cap1 rest tries floor : ℕ) → refusalIn (noneText cap0 cap1 rest tries floor) ≡ 0
 unfolding noneText refusalIn sameWord spells past cased pick _and_
-none-tells cap rest tries floor = refl
+none-tells cap0 cap1 rest tries floor = refl
 
 split-tells : (m n nonzeros : ℕ) (list parts : List ℕ) (f : Figures) → refusalIn (textOf m n nonzeros list parts f) ≡ 0
 unfolding textOf headText refusalIn sameWord spells past cased pick _and_
@@ -64,7 +64,7 @@ split-tells m n nonzeros list parts f = refl
 
 pub no-number : {answer : List ℕ} → NoRefusal answer → refusalIn answer ≡ 0
 no-number (split m n nonzeros list parts f e) = ap refusalIn e ∙ split-tells m n nonzeros list parts f
-no-number (none-yet cap rest tries floor e) = ap refusalIn e ∙ none-tells cap rest tries floor
+no-number (none-yet cap0 cap1 rest tries floor e) = ap refusalIn e ∙ none-tells cap0 cap1 rest tries floor
 
 -- an answer tells the first of two verdicts that refuses
 pub tells-then :

@@ -1,4 +1,4 @@
--- Document 01, 'Texts', with the rest of document 02's request 4: what the program prints, step by step.
+-- Document 01, 'Texts', with the rest and the caps of document 02's requests 4 and 5: what the program prints, step by step.
 -- Assumes nothing.
 use mathlib.Core.List.{List, []}
 use Prim.Native.Nat.{ℕ, _*_}
@@ -19,6 +19,7 @@ use Rattle.model.specs.declared.ShowAnswer.{ShowAnswer}
 use Rattle.model.specs.declared.ShowAnswer.the-variants as show-answer
 use Rattle.model.specs.Limits.{nonzeroLimit}
 use Rattle.model.specs.Pattern.{entryBytes}
+use Rattle.model.specs.Split.{bothCaps}
 use Rattle.model.specs.Calls.{capCall, openCall, runCall, showCall, showParts, completeNumber}
 use Rattle.texts.specs.declared.ReadAnswer.{ReadAnswer}
 use Rattle.texts.specs.declared.ReadAnswer.the-variants as read-answer
@@ -41,7 +42,7 @@ partsRoom = replicate nonzeroLimit 0
 -- an answer: a split with its figures, "none yet", or a refusal
 pub data Answer : Type 0 where
   gives-split : (m n nonzeros : ℕ) (list parts : List ℕ) (f : Figures) → Answer
-  gives-none : (cap rest tries floor : ℕ) → Answer
+  gives-none : (cap0 cap1 rest tries floor : ℕ) → Answer
   gives-refusal : (word : Word) (place : ℕ) → Answer
 
 -- the text written, or the writer's refusal
@@ -53,21 +54,22 @@ afterWriting (write-answer.Refused word place) text = refusedText word place
 unfoldable pub printedAs : Answer → List ℕ → List ℕ
 printedAs (gives-split m n nonzeros list parts f) out =
     afterWriting (writeCall m n nonzeros list parts f out) (textOf m n nonzeros list parts f)
-printedAs (gives-none cap rest tries floor) out = noneText cap rest tries floor
+printedAs (gives-none cap0 cap1 rest tries floor) out = noneText cap0 cap1 rest tries floor
 printedAs (gives-refusal word place) out = refusedText word place
 
 -- the line of an answer without a split: "none yet", or a refusal
-unfoldable pub lineText : ShowAnswer → ℕ → ℕ → ℕ → List ℕ
-lineText (show-answer.Split volume floor) cap rest tries = []
-lineText (show-answer.NoneYet floor) cap rest tries = noneText cap rest tries floor
-lineText (show-answer.Refused word place) cap rest tries = refusedText word place
+unfoldable pub lineText : ShowAnswer → ℕ → ℕ → ℕ → ℕ → List ℕ
+lineText (show-answer.Split volume floor) cap0 cap1 rest tries = []
+lineText (show-answer.NoneYet floor) cap0 cap1 rest tries = noneText cap0 cap1 rest tries floor
+lineText (show-answer.Refused word place) cap0 cap1 rest tries = refusedText word place
 
 -- the figures of the comment
 unfoldable pub figuresOf : Search → ℕ → ℕ → ℕ → Figures
 figuresOf s rest volume floor =
     record {
       volume = volume;
-      cap = s .cap;
+      cap0 = s .cap0;
+      cap1 = s .cap1;
       rest = rest;
       tries = s .tries;
       floor = floor;
@@ -80,7 +82,7 @@ module _ (rest m n nonzeros : ℕ) (list : List ℕ) where
   unfoldable pub afterShowing : ShowAnswer → Search → List ℕ → Answer
   afterShowing (show-answer.Split volume floor) s parts =
       gives-split m n nonzeros list parts (figuresOf s rest volume floor)
-  afterShowing (show-answer.NoneYet floor) s parts = gives-none (s .cap) rest (s .tries) floor
+  afterShowing (show-answer.NoneYet floor) s parts = gives-none (s .cap0) (s .cap1) rest (s .tries) floor
   afterShowing (show-answer.Refused word place) s parts = gives-refusal word place
 
   -- a showing of a search
@@ -107,10 +109,10 @@ module _ (rest m n nonzeros : ℕ) (list : List ℕ) where
   unfoldable pub openedAnswer : Opened → ℕ → Answer
   openedAnswer opened budget = afterOpening (opened .verdict) (opened .search) budget
 
--- after the cap from a percentage
+-- after the cap from a percentage, which is both caps
 unfoldable pub afterCap : CapAnswer → ℕ → ℕ → ℕ → List ℕ → ℕ → Answer
 afterCap (cap-answer.Capped cap rest) m n nonzeros list budget =
-    openedAnswer rest m n nonzeros list (openCall m n nonzeros list cap) budget
+    openedAnswer rest m n nonzeros list (openCall m n nonzeros list (bothCaps cap)) budget
 afterCap (cap-answer.Refused word place) m n nonzeros list budget = gives-refusal word place
 
 -- after the reading (parts unused)

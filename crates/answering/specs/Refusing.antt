@@ -41,7 +41,7 @@ refusalIn answer = pick (sameWord answer 0 8 false #refused) (numberAt answer 8 
 -- an answer that refuses nothing: a split, or "none yet"
 pub data NoRefusal (answer : List ℕ) : Type 0 where
   split : (m n nonzeros : ℕ) (list parts : List ℕ) (f : Figures) → answer ≡ textOf m n nonzeros list parts f → NoRefusal answer
-  none-yet : (cap rest tries floor : ℕ) → answer ≡ noneText cap rest tries floor → NoRefusal answer
+  none-yet : (cap0 cap1 rest tries floor : ℕ) → answer ≡ noneText cap0 cap1 rest tries floor → NoRefusal answer
 
 -- an answer that tells a verdict: the line of the refusal, or no refusal
 abbrev pub Tells : Verdict → List ℕ → Type 0

@@ -16,6 +16,7 @@ use writing::write::lines::put_none;
 use writing::write::lines::put_refused;
 use writing::write::write;
 ghost use mathlib.Core.Path.{_≡_};
+ghost use Rattle.model.specs.Split.{bothCaps};
 ghost use Rattle.model.specs.Calls.{capCall, openCall, runCall};
 ghost use Rattle.writing.specs.Written.{Puts};
 ghost use Rattle.answering.specs.Answer.{gives-split, printedAs, lineText, figuresOf, searchAnswer, ranAnswer, openedAnswer, afterCap, patternAnswer, answerText};
@@ -26,7 +27,8 @@ fn figures_of(search: Search, rest: u64, volume: u64, floor: u64) -> Figures
 {
     Figures {
         volume,
-        cap: search.cap,
+        cap0: search.cap0,
+        cap1: search.cap1,
         rest,
         tries: search.tries,
         floor,
@@ -54,15 +56,15 @@ fn put_split(
 }
 
 // Writes the line of an answer without a split.
-fn put_line(shown: ShowAnswer, cap: u64, rest: u64, tries: u64, out: &mut [u8]) -> usize
-    ensures { λ r. ⌜ Puts (now (out .entry)) 0 (lineText shown cap rest tries) (now (out .exit)) r ⌝ }
+fn put_line(shown: ShowAnswer, cap0: u64, cap1: u64, rest: u64, tries: u64, out: &mut [u8]) -> usize
+    ensures { λ r. ⌜ Puts (now (out .entry)) 0 (lineText shown cap0 cap1 rest tries) (now (out .exit)) r ⌝ }
 {
     match shown {
         ShowAnswer::Split {
             volume: _,
             floor: _,
         } => 0,
-        ShowAnswer::NoneYet { floor } => put_none(out, cap, rest, tries, floor),
+        ShowAnswer::NoneYet { floor } => put_none(out, cap0, cap1, rest, tries, floor),
         ShowAnswer::Refused(word, place) => put_refused(out, word, place),
     }
 }
@@ -82,7 +84,7 @@ fn put_search(
     let mut parts = [0u8; 2000];
     let shown = search::show(search, m, n, nonzeros, list, &mut parts);
     let ShowAnswer::Split { volume, floor } = shown else {
-        return put_line(shown, search.cap, rest, search.tries, out);
+        return put_line(shown, search.cap0, search.cap1, rest, search.tries, out);
     };
     let figures = figures_of(search, rest, volume, floor);
     put_split(m, n, nonzeros, list, &parts, figures, out)
@@ -111,7 +113,7 @@ fn put_run(
     }
 }
 
-// Opens a search, runs it and prints what it shows.
+// Opens a search with this cap for both parts, runs it and prints what it shows.
 fn put_opening(
     m: u64,
     n: u64,
@@ -122,9 +124,9 @@ fn put_opening(
     budget: u64,
     out: &mut [u8],
 ) -> usize
-    ensures { λ r. ⌜ Puts (now (out .entry)) 0 (printedAs (openedAnswer rest m n nonzeros (now (list .entry)) (openCall m n nonzeros (now (list .entry)) cap) budget) (now (out .entry))) (now (out .exit)) r ⌝ }
+    ensures { λ r. ⌜ Puts (now (out .entry)) 0 (printedAs (openedAnswer rest m n nonzeros (now (list .entry)) (openCall m n nonzeros (now (list .entry)) (bothCaps cap)) budget) (now (out .entry))) (now (out .exit)) r ⌝ }
 {
-    let opened = search::open(m, n, nonzeros, list, cap);
+    let opened = search::open(m, n, nonzeros, list, cap, cap);
     let verdict = opened.verdict;
     let fresh = opened.search;
     match verdict {

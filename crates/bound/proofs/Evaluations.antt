@@ -14,6 +14,7 @@ use Rattle.counting.specs.Tests.{_and_, _or_}
 use Rattle.counting.proofs.Joined.{clash, or-cases, and-left}
 use Rattle.counting.proofs.Lists.{getD-any}
 use Rattle.model.specs.declared.Verdict.the-variants.{Accepted}
+use Rattle.model.specs.declared.Caps.{Caps}
 use Rattle.model.specs.Pattern.{Pattern, patternOf, lines, rowIn, columnIn}
 use Rattle.model.specs.Marking.{Marking, unmarked, place, marking, valid}
 use Rattle.model.specs.Bound.{bound}
@@ -39,8 +40,8 @@ use Rattle.bound.specs.Evaluated.{Listed, Placed, TakenOn, LeansAt, Lowe
 
 -- the bound of a valid marking
 pub bound-sum :
-    {P : Pattern} {cap : ℕ} {μ : Marking} {t : Taken} {k : Kinds} {l : Lower} (x : ℕ) →
-    Parts P cap μ t k l → x ≡ k .cut + k .torn + max (l .struck) (l .matched) → x ≡ bound P cap μ
+    {P : Pattern} {caps : Caps} {μ : Marking} {t : Taken} {k : Kinds} {l : Lower} (x : ℕ) →
+    Parts P caps μ t k l → x ≡ k .cut + k .torn + max (l .struck) (l .matched) → x ≡ bound P caps μ
 unfolding bound
 bound-sum x p e = e ∙ rw (p .cut-is, p .torn-is, p .struck-is, p .matched-is)
 
@@ -53,12 +54,12 @@ sum-first cut torn x y r h e = omega (arith, max-eq-left h)
 
 -- a marking that is not valid has no bound
 pub not-valid :
-    (P : Pattern) (cap : ℕ) (μ : Marking) (t : Taken) (zero₀ one₀ zero₁ one₁ : List ℕ) (r : Evaluation) →
-    TakesOpen P μ t zero₀ one₀ zero₁ one₁ → validBy t cap ≡ false →
-    r .valid ≡ false → r .zero ≡ t .zero → r .one ≡ t .one → NoBound r → Evaluates P cap μ r
-not-valid P cap μ t zero₀ one₀ zero₁ one₁ r k v e z o none =
+    (P : Pattern) (caps : Caps) (μ : Marking) (t : Taken) (zero₀ one₀ zero₁ one₁ : List ℕ) (r : Evaluation) →
+    TakesOpen P μ t zero₀ one₀ zero₁ one₁ → validBy t caps ≡ false →
+    r .valid ≡ false → r .zero ≡ t .zero → r .one ≡ t .one → NoBound r → Evaluates P caps μ r
+not-valid P caps μ t zero₀ one₀ zero₁ one₁ r k v e z o none =
     record {
-      valid-is = e ∙ sym v ∙ valid-by cap k;
+      valid-is = e ∙ sym v ∙ valid-by caps k;
       zero-is = z ∙ k .zero-is;
       one-is = o ∙ k .one-is;
       cut-is = λ h. clash h e;
@@ -82,21 +83,21 @@ module _ (m n nonzeros : ℕ) (list marks : List ℕ) {t : Taken} {by-zero by-on
 
   -- the parts of the evaluation
   pub parts-are :
-      (cap zero-room one-room : ℕ) (l : Lower) → validBy t cap ≡ true →
-      zero-room ≡ cap - t .zero → one-room ≡ cap - t .one →
+      (caps : Caps) (zero-room one-room : ℕ) (l : Lower) → validBy t caps ≡ true →
+      zero-room ≡ caps .cap0 - t .zero → one-room ≡ caps .cap1 - t .one →
       Lowered (patternOf m n nonzeros list) (markingIn marks) zero-room one-room l →
-      Parts (patternOf m n nonzeros list) cap (markingIn marks) t s l
-  parts-are cap zero-room one-room l v ez eo low =
+      Parts (patternOf m n nonzeros list) caps (markingIn marks) t s l
+  parts-are caps zero-room one-room l v ez eo low =
       record {
-        valid-is = sym (valid-by cap (k .takes-all)) ∙ v;
+        valid-is = sym (valid-by caps (k .takes-all)) ∙ v;
         zero-is = k .takes-all .zero-is;
         one-is = k .takes-all .one-is;
         cut-is = cut-is-L1 marks (k .zero-clear) (k .one-clear) (k .takes-all) lines-few lean-all;
         torn-is = torn-is-L2 marks (k .zero-clear) (k .one-clear) (k .takes-all) lines-few lean-all;
         struck-is = low .struck-is
-            cap
-            (ez ∙ ap (λ (d : ℕ). cap - d) (k .takes-all .zero-is))
-            (eo ∙ ap (λ (d : ℕ). cap - d) (k .takes-all .one-is));
+            caps
+            (ez ∙ ap (λ (d : ℕ). caps .cap0 - d) (k .takes-all .zero-is))
+            (eo ∙ ap (λ (d : ℕ). caps .cap1 - d) (k .takes-all .one-is));
         matched-is = low .matched-is;
       }
 

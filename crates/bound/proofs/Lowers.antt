@@ -10,8 +10,9 @@ use Rattle.counting.specs.Tests.{pick}
 use Rattle.counting.proofs.Joined.{by-test, pick-true, pick-false}
 use Rattle.model.specs.declared.Part.{Part}
 use Rattle.model.specs.declared.Part.the-variants.{Zero, One}
+use Rattle.model.specs.declared.Caps.{Caps}
 use Rattle.model.specs.Pattern.{patternOf}
-use Rattle.model.specs.Split.{partNumber}
+use Rattle.model.specs.Split.{partNumber, capOf}
 use Rattle.model.specs.Marking.{Marking, taken}
 use Rattle.model.specs.Bound.{atStake, struck, L3}
 use Rattle.model.proofs.Theorems.OfList.{lines-of, size-of}
@@ -53,23 +54,23 @@ rows-rise m n nonzeros list starts k t b = k .rising t b
 module _ (m n nonzeros : ℕ) (list starts : List ℕ) (μ : Marking) (lean : List ℕ) (k : Listed m n nonzeros list starts) (right : LeansAt (patternOf m n nonzeros list) μ lean) where
   -- the lines struck for a part
   struck-part :
-      (p : Part) (cap : ℕ) (weights : List ℕ) {r : Stakes} (x s room : ℕ) →
+      (p : Part) (caps : Caps) (weights : List ℕ) {r : Stakes} (x s room : ℕ) →
       WeighsAll (patternOf m n nonzeros list) μ lean r weights →
       s ≡ stakeIn (patternOf m n nonzeros list) μ lean (partNumber p) →
-      room ≡ cap - taken (patternOf m n nonzeros list) μ p →
+      room ≡ capOf caps p - taken (patternOf m n nonzeros list) μ p →
       x ≡ struckIn lean weights (partNumber p) (m + n) s room →
-      x ≡ struck (patternOf m n nonzeros list) cap μ p
-  struck-part p cap weights x s room w es er e =
+      x ≡ struck (patternOf m n nonzeros list) caps μ p
+  struck-part p caps weights x s room w es er e =
       let P = patternOf m n nonzeros list in
       e
       ∙ ap (λ (y : ℕ). struckIn lean weights (partNumber p) (m + n) y room) (es ∙ stake-is P μ lean (k .inside) right p)
       ∙ ap (λ (y : ℕ). struckIn lean weights (partNumber p) (m + n) (atStake P μ p) y) er
-      ∙ ap (λ (y : ℕ). struckIn lean weights (partNumber p) y (atStake P μ p) (cap - taken P μ p)) (sym (lines-of m n nonzeros list))
+      ∙ ap (λ (y : ℕ). struckIn lean weights (partNumber p) y (atStake P μ p) (capOf caps p - taken P μ p)) (sym (lines-of m n nonzeros list))
       ∙ struck-is
       P
       μ
       p
-      cap
+      caps
       lean
       weights
       (omega (arith, size-of m n nonzeros list, k .small))
@@ -101,11 +102,11 @@ module _ (m n nonzeros : ℕ) (list starts : List ℕ) (μ : Marking) (lean : Li
   lowered weights {r} x y matched zero-room one-room w ez eo em l el ek =
       let P = patternOf m n nonzeros list in
       record {
-        struck-is = λ cap e f. omega (
+        struck-is = λ caps e f. omega (
           arith,
           el,
-          struck-part Zero cap weights x (r .zero) zero-room w (w .zero-is) e ez,
-          struck-part One cap weights y (r .one) one-room w (w .one-is) f eo,
+          struck-part Zero caps weights x (r .zero) zero-room w (w .zero-is) e ez,
+          struck-part One caps weights y (r .one) one-room w (w .one-is) f eo,
         );
         matched-is =
             ek

@@ -3,6 +3,7 @@
 use mathlib.Core.Path.{_≡_, _∙_}
 use Prim.Native.Nat.{ℕ, _<_}
 use Rattle.model.specs.declared.Part.the-variants.{Zero, One}
+use Rattle.model.specs.declared.Caps.{Caps}
 use Rattle.model.specs.Pattern.{Pattern, Inside, lines}
 use Rattle.model.specs.Marking.{Marking}
 use Rattle.model.proofs.Alike.Patterns.{alike-self}
@@ -14,17 +15,17 @@ use Rattle.bound.specs.Evaluated.{Evaluates}
 -- an evaluation of one is an evaluation of the other
 pub evaluates-same :
     (P : Pattern) (μ ν : Marking) → Inside P → ((l : ℕ) → l < lines P → μ l ≡ ν l) →
-    (cap : ℕ) (r : Evaluation) → Evaluates P cap μ r → Evaluates P cap ν r
-evaluates-same P μ ν i same cap r e =
+    (caps : Caps) (r : Evaluation) → Evaluates P caps μ r → Evaluates P caps ν r
+evaluates-same P μ ν i same caps r e =
     let k : AlikeMarks P P μ ν = inside-marks i (alike-self P) same in
     record {
-      valid-is = e .valid-is ∙ valid-same k cap;
+      valid-is = e .valid-is ∙ valid-same k caps;
       zero-is = e .zero-is ∙ taken-same k Zero;
       one-is = e .one-is ∙ taken-same k One;
       cut-is = λ v. e .cut-is v ∙ L1-same k;
       torn-is = λ v. e .torn-is v ∙ L2-same k;
-      struck-is = λ v. e .struck-is v ∙ L3-same k cap;
+      struck-is = λ v. e .struck-is v ∙ L3-same k caps;
       matched-is = λ v. e .matched-is v ∙ L4-same k;
-      bound-is = λ v. e .bound-is v ∙ bound-same k cap;
+      bound-is = λ v. e .bound-is v ∙ bound-same k caps;
       none = e .none;
     }

@@ -8,6 +8,7 @@ use lib.Dec.{eqb}
 use lib.ListN.{getD}
 use Rattle.model.specs.declared.Part.{Part}
 use Rattle.model.specs.declared.Part.the-variants.{Zero, One}
+use Rattle.model.specs.declared.Caps.{Caps}
 use Rattle.model.specs.Limits.{lineLimit, nonzeroLimit}
 use Rattle.model.specs.Pattern.{Pattern, Inside, patternOf, lines, rowIn}
 use Rattle.model.specs.Split.{partNumber}
@@ -40,15 +41,15 @@ abbrev pub NoBound : Evaluation → Type 0
 NoBound r = (r .cut ≡ 0) × (r .torn ≡ 0) × (r .struck ≡ 0) × (r .matched ≡ 0) × (r .bound ≡ 0)
 
 -- what an evaluation says of a marking: all zero where it is not valid
-pub record Evaluates (P : Pattern) (cap : ℕ) (μ : Marking) (r : Evaluation) : Type 0 where
-  pub valid-is : r .valid ≡ valid P cap μ
+pub record Evaluates (P : Pattern) (caps : Caps) (μ : Marking) (r : Evaluation) : Type 0 where
+  pub valid-is : r .valid ≡ valid P caps μ
   pub zero-is : r .zero ≡ taken P μ Zero
   pub one-is : r .one ≡ taken P μ One
   pub cut-is : r .valid ≡ true → r .cut ≡ L1 P μ
   pub torn-is : r .valid ≡ true → r .torn ≡ L2 P μ
-  pub struck-is : r .valid ≡ true → r .struck ≡ L3 P cap μ
+  pub struck-is : r .valid ≡ true → r .struck ≡ L3 P caps μ
   pub matched-is : r .valid ≡ true → r .matched ≡ L4 P μ
-  pub bound-is : r .valid ≡ true → r .bound ≡ bound P cap μ
+  pub bound-is : r .valid ≡ true → r .bound ≡ bound P caps μ
   pub none : r .valid ≡ false → NoBound r
 
 -- what the pass over the nonzeros answered and left, where it began with no line
@@ -66,15 +67,15 @@ LeansAt P μ lean = (p : Part) (l : ℕ) → l < lines P → eqb (getD lean l 0)
 -- L3, with the room that each part has left, and L4
 pub record Lowered (P : Pattern) (μ : Marking) (zero one : ℕ) (r : Lower) : Type 0 where
   pub struck-is :
-      (cap : ℕ) → zero ≡ cap - taken P μ Zero → one ≡ cap - taken P μ One → r .struck ≡ L3 P cap μ
+      (caps : Caps) → zero ≡ caps .cap0 - taken P μ Zero → one ≡ caps .cap1 - taken P μ One → r .struck ≡ L3 P caps μ
   pub matched-is : r .matched ≡ L4 P μ
 
 -- the parts of the evaluation of a valid marking
-pub record Parts (P : Pattern) (cap : ℕ) (μ : Marking) (t : Taken) (k : Kinds) (l : Lower) : Type 0 where
-  pub valid-is : valid P cap μ ≡ true
+pub record Parts (P : Pattern) (caps : Caps) (μ : Marking) (t : Taken) (k : Kinds) (l : Lower) : Type 0 where
+  pub valid-is : valid P caps μ ≡ true
   pub zero-is : t .zero ≡ taken P μ Zero
   pub one-is : t .one ≡ taken P μ One
   pub cut-is : k .cut ≡ L1 P μ
   pub torn-is : k .torn ≡ L2 P μ
-  pub struck-is : l .struck ≡ L3 P cap μ
+  pub struck-is : l .struck ≡ L3 P caps μ
   pub matched-is : l .matched ≡ L4 P μ

@@ -5,6 +5,7 @@ use crate::lower::lower_of;
 use crate::lower::room_of;
 use crate::tables::lines_of;
 use marking::marks::marks_by_line;
+use model::Caps;
 use pattern::reading::long16;
 use pattern::splits::no_lines;
 use weighing::leaning::Kinds;
@@ -17,6 +18,7 @@ ghost use mathlib.Core.List.{List};
 ghost use mathlib.Core.Path.{_≡_};
 ghost use Prim.Native.Nat.{ℕ, _+_, _≤_, _<_};
 ghost use lib.ListN.{length, getD};
+ghost use Rattle.model.specs.declared.Caps.{Caps};
 ghost use Rattle.model.specs.Pattern.{Pattern, patternOf};
 ghost use Rattle.model.specs.Marking.{Marking, marking};
 ghost use Rattle.model.specs.State.{arrayOf};
@@ -50,7 +52,7 @@ fn invalid(taken: Taken) -> Evaluation
 // The evaluation of a valid marking: the bound is L1 + L2 + the larger of L3 and L4.
 fn joined(taken: Taken, kinds: Kinds, lower: Lower) -> Evaluation
     requires { ⌜ lower .matched ≤ 255 ⌝ }
-    ensures { λ r. ⌜ ((P : Pattern) (cap : ℕ) (μ : Marking) → Parts P cap μ taken kinds lower → Evaluates P cap μ r) ⌝ }
+    ensures { λ r. ⌜ ((P : Pattern) (caps : Caps) (μ : Marking) → Parts P caps μ taken kinds lower → Evaluates P caps μ r) ⌝ }
 {
     let struck = long16(lower.struck);
     let matched = lower.matched;
@@ -74,7 +76,7 @@ fn evaluate_valid(
     n: u8,
     nonzeros: u16,
     list: &[u8],
-    cap: u64,
+    caps: Caps,
     starts: &[u16; 257],
     marks: &[u8; 512],
     taken: Taken,
@@ -83,13 +85,13 @@ fn evaluate_valid(
 ) -> Evaluation
     ensures { λ r. ⌜ (Listed m n nonzeros (now (list .entry)) (now (starts .entry)) →
         TakenOn (patternOf m n nonzeros (now (list .entry))) (markingIn (now (marks .entry))) taken (now («by_zero» .entry)) (now («by_one» .entry)) →
-        validBy taken cap ≡ true →
-        Evaluates (patternOf m n nonzeros (now (list .entry))) cap (markingIn (now (marks .entry))) r) ⌝ }
+        validBy taken caps ≡ true →
+        Evaluates (patternOf m n nonzeros (now (list .entry))) caps (markingIn (now (marks .entry))) r) ⌝ }
 {
     let mut lean = no_leanings();
     let kinds = lean_all(m, n, marks, by_zero, by_one, &mut lean);
-    let zero_room = room_of(cap, taken.zero);
-    let one_room = room_of(cap, taken.one);
+    let zero_room = room_of(caps.cap0, taken.zero);
+    let one_room = room_of(caps.cap1, taken.one);
     let lower = lower_of(
         m,
         n,
@@ -110,23 +112,23 @@ pub fn evaluate_lines(
     n: u8,
     nonzeros: u16,
     list: &[u8],
-    cap: u64,
+    caps: Caps,
     starts: &[u16; 257],
     marks: &[u8; 512],
 ) -> Evaluation
     ensures { λ r. ⌜ (Listed m n nonzeros (now (list .entry)) (now (starts .entry)) →
-        Evaluates (patternOf m n nonzeros (now (list .entry))) cap (markingIn (now (marks .entry))) r) ⌝ }
+        Evaluates (patternOf m n nonzeros (now (list .entry))) caps (markingIn (now (marks .entry))) r) ⌝ }
 {
     let mut by_zero = no_lines();
     let mut by_one = no_lines();
     let taken = take_lines(m, n, nonzeros, list, marks, &mut by_zero, &mut by_one);
-    if is_valid(taken, cap) {
+    if is_valid(taken, caps) {
         evaluate_valid(
             m,
             n,
             nonzeros,
             list,
-            cap,
+            caps,
             starts,
             marks,
             taken,
@@ -144,7 +146,7 @@ pub fn evaluate(
     n: u8,
     nonzeros: u16,
     list: &[u8],
-    cap: u64,
+    caps: Caps,
     places: &[u16; 512],
     starts: &[u16; 257],
     marks: &[u8; 240],
@@ -153,8 +155,8 @@ pub fn evaluate(
     ensures { λ r. ⌜ (Listed m n nonzeros (now (list .entry)) (now (starts .entry)) →
         Placed (patternOf m n nonzeros (now (list .entry))) (now (places .entry)) →
         (τ : List ℕ) → length τ ≤ 240 → now (marks .entry) ≡ arrayOf τ → len ≡ length τ →
-        Evaluates (patternOf m n nonzeros (now (list .entry))) cap (marking (patternOf m n nonzeros (now (list .entry))) τ) r) ⌝ }
+        Evaluates (patternOf m n nonzeros (now (list .entry))) caps (marking (patternOf m n nonzeros (now (list .entry))) τ) r) ⌝ }
 {
     let by_line = marks_by_line(lines_of(m, n), places, marks, len);
-    evaluate_lines(m, n, nonzeros, list, cap, starts, &by_line)
+    evaluate_lines(m, n, nonzeros, list, caps, starts, &by_line)
 }

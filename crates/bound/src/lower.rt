@@ -18,7 +18,7 @@ pub struct Lower {
     pub matched: u64,
 }
 
-// The room that a part has left below the cap.
+// The room that a part has left below its cap.
 pub(crate) fn room_of(cap: u64, taken: u16) -> u64
     ensures { λ r. ⌜ r ≡ cap - taken ⌝ }
 {

@@ -4,6 +4,7 @@ use bound::evaluating::evaluate_lines;
 use libc::STDIN_FILENO;
 use marking::marks::unmarked_lines;
 use matching::starts::row_starts;
+use model::Caps;
 use pattern::reading::byte_at;
 use pattern::reading::long16;
 use testing::Kind;
@@ -35,12 +36,12 @@ fn say_all(e: Evaluation) {
     say(b"\n");
 }
 
-// A pattern and a cap as a case gives them, and the place of the next case.
+// A pattern and its caps as a case gives them, and the place of the next case.
 struct Given {
     m: u8,
     n: u8,
     nonzeros: u16,
-    cap: u64,
+    caps: Caps,
     list: [u8; 64],
     len: usize,
     next: usize,
@@ -53,13 +54,18 @@ fn given_at(cases: &[u8], at: usize) -> Given {
     let m = number_at(cases, kind.next);
     let n = number_at(cases, m.next);
     let nonzeros = number_at(cases, n.next);
-    let cap = number_at(cases, nonzeros.next);
-    let listed = field_at(cases, cap.next, Kind::Numbers, &mut list);
+    let cap0 = number_at(cases, nonzeros.next);
+    let cap1 = number_at(cases, cap0.next);
+    let caps = Caps {
+        cap0: cap0.value,
+        cap1: cap1.value,
+    };
+    let listed = field_at(cases, cap1.next, Kind::Numbers, &mut list);
     Given {
         m: (m.value % 256) as u8,
         n: (n.value % 256) as u8,
         nonzeros: (nonzeros.value % 65536) as u16,
-        cap: cap.value,
+        caps,
         list,
         len: listed.value as usize,
         next: listed.next,
@@ -78,7 +84,7 @@ fn say_marking(given: Given, letters: &[u8]) {
         given.n,
         given.nonzeros,
         list,
-        given.cap,
+        given.caps,
         &starts,
         &marks,
     );

@@ -7,6 +7,7 @@ use Prim.Native.Nat.{ℕ, min}
 use native.Mathlib.Omega.{arith}
 use Rattle.counting.specs.Tests.{pick}
 use Rattle.counting.proofs.Joined.{pick-true, pick-false}
+use Rattle.model.specs.declared.Caps.{Caps}
 use Rattle.model.specs.Pattern.{Pattern}
 use Rattle.model.specs.Marking.{marking}
 use Rattle.model.specs.Walk.{Rules, rulesOf, leastBound}
@@ -68,7 +69,7 @@ pick-min true c x y least e f = ap (λ (z : ℕ). min z least) (f refl) ∙ sym 
 pick-min false c x y least e f = sym (pick-false (min y least) least (sym e))
 
 -- a marking's evaluation lowers the count as its bound does
-pub least-of-is : {P : Pattern} {cap : ℕ} (τ : List ℕ) {e : Evaluation} (least : ℕ)
-    → Evaluates P cap (marking P τ) e → leastOf e least ≡ leastBound (rulesOf P cap) least (τ ∷ [])
+pub least-of-is : {P : Pattern} {caps : Caps} (τ : List ℕ) {e : Evaluation} (least : ℕ)
+    → Evaluates P caps (marking P τ) e → leastOf e least ≡ leastBound (rulesOf P caps) least (τ ∷ [])
 unfolding leastOf leastBound rulesOf
 least-of-is τ {e} least k = pick-min (e .valid) _ (e .bound) _ least (k .valid-is) (k .bound-is)

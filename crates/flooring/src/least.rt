@@ -1,6 +1,8 @@
 // The least of a count and the bounds of valid markings: of one marking, of a marking put later, and of the open markings of a search.
 use bound::Evaluation;
 use bound::evaluating::evaluate;
+use model::Caps;
+use pattern::cap::unequal_caps;
 use trail::Trail;
 ghost use mathlib.Core.List.{List, [], _∷_};
 ghost use mathlib.Core.Path.{_≡_};
@@ -8,6 +10,7 @@ ghost use Prim.Native.Nat.{ℕ, _≤_};
 ghost use lib.ListN.{length};
 ghost use Rattle.counting.specs.Tests.{pick};
 ghost use Rattle.model.specs.Pattern.{patternOf};
+ghost use Rattle.model.specs.Split.{unequal};
 ghost use Rattle.model.specs.Walk.{rulesOf, putLater, beginningsLater, leastBound};
 ghost use Rattle.model.specs.State.{trailOf};
 ghost use Rattle.bound.specs.Evaluated.{Listed, Placed};
@@ -31,7 +34,7 @@ fn least_with(
     n: u8,
     nonzeros: u16,
     list: &[u8],
-    cap: u64,
+    caps: Caps,
     places: &[u16; 512],
     starts: &[u16; 257],
     trail: Trail,
@@ -40,21 +43,31 @@ fn least_with(
     ensures { λ r. ⌜ (Listed m n nonzeros (now (list .entry)) (now (starts .entry)) →
         Placed (patternOf m n nonzeros (now (list .entry))) (now (places .entry)) →
         (τ : List ℕ) → length τ ≤ 240 → trail ≡ trailOf τ →
-        r ≡ leastBound (rulesOf (patternOf m n nonzeros (now (list .entry))) cap) least (τ ∷ [])) ⌝ }
+        r ≡ leastBound (rulesOf (patternOf m n nonzeros (now (list .entry))) caps) least (τ ∷ [])) ⌝ }
 {
     let marks = trail.marks;
-    let judged = evaluate(m, n, nonzeros, list, cap, places, starts, &marks, trail.len);
+    let judged = evaluate(
+        m,
+        n,
+        nonzeros,
+        list,
+        caps,
+        places,
+        starts,
+        &marks,
+        trail.len,
+    );
     least_of(judged, least)
 }
 
-// The last mark may become 1: it is 0, and some earlier mark is 0 or 1.
-fn may_one(trail: Trail) -> bool
-    ensures { λ r. ⌜ r ≡ mayOne trail ⌝ }
+// The last mark may become 1: it is 0, and mark 1 is allowed.
+fn may_one(trail: Trail, first: bool) -> bool
+    ensures { λ r. ⌜ r ≡ mayOne first trail ⌝ }
 {
     if 0 < trail.last(2) {
         return false;
     }
-    trail.part_before()
+    trail.may_be_one(first)
 }
 
 // The last mark may become cut: it is 0 or 1.
@@ -70,7 +83,7 @@ fn least_if(
     n: u8,
     nonzeros: u16,
     list: &[u8],
-    cap: u64,
+    caps: Caps,
     places: &[u16; 512],
     starts: &[u16; 257],
     trail: Trail,
@@ -80,10 +93,10 @@ fn least_if(
     ensures { λ r. ⌜ (Listed m n nonzeros (now (list .entry)) (now (starts .entry)) →
         Placed (patternOf m n nonzeros (now (list .entry))) (now (places .entry)) →
         (τ : List ℕ) → length τ ≤ 240 → trail ≡ trailOf τ →
-        r ≡ leastBound (rulesOf (patternOf m n nonzeros (now (list .entry))) cap) least (pick allowed (τ ∷ []) [])) ⌝ }
+        r ≡ leastBound (rulesOf (patternOf m n nonzeros (now (list .entry))) caps) least (pick allowed (τ ∷ []) [])) ⌝ }
 {
     if allowed {
-        least_with(m, n, nonzeros, list, cap, places, starts, trail, least)
+        least_with(m, n, nonzeros, list, caps, places, starts, trail, least)
     } else {
         least
     }
@@ -95,7 +108,7 @@ fn least_later(
     n: u8,
     nonzeros: u16,
     list: &[u8],
-    cap: u64,
+    caps: Caps,
     places: &[u16; 512],
     starts: &[u16; 257],
     trail: Trail,
@@ -104,14 +117,25 @@ fn least_later(
     ensures { λ r. ⌜ (Listed m n nonzeros (now (list .entry)) (now (starts .entry)) →
         Placed (patternOf m n nonzeros (now (list .entry))) (now (places .entry)) →
         (τ : List ℕ) → length τ ≤ 240 → trail ≡ trailOf τ →
-        r ≡ leastBound (rulesOf (patternOf m n nonzeros (now (list .entry))) cap) least (putLater τ)) ⌝ }
+        r ≡ leastBound (rulesOf (patternOf m n nonzeros (now (list .entry))) caps) least (putLater (unequal caps) τ)) ⌝ }
 {
-    let ones = may_one(trail);
+    let ones = may_one(trail, unequal_caps(caps));
     let cuts = may_cut(trail);
     let one = trail.replace_last(1);
     let cut = trail.replace_last(2);
-    let so_far = least_if(m, n, nonzeros, list, cap, places, starts, one, ones, least);
-    least_if(m, n, nonzeros, list, cap, places, starts, cut, cuts, so_far)
+    let so_far = least_if(m, n, nonzeros, list, caps, places, starts, one, ones, least);
+    least_if(
+        m,
+        n,
+        nonzeros,
+        list,
+        caps,
+        places,
+        starts,
+        cut,
+        cuts,
+        so_far,
+    )
 }
 
 // The least of a count and the bounds of the valid ones of a trail and of each beginning of it with its last mark put later.
@@ -120,7 +144,7 @@ pub fn least_open(
     n: u8,
     nonzeros: u16,
     list: &[u8],
-    cap: u64,
+    caps: Caps,
     places: &[u16; 512],
     starts: &[u16; 257],
     trail: Trail,
@@ -129,12 +153,12 @@ pub fn least_open(
     ensures { λ r. ⌜ (Listed m n nonzeros (now (list .entry)) (now (starts .entry)) →
         Placed (patternOf m n nonzeros (now (list .entry))) (now (places .entry)) →
         (τ : List ℕ) → length τ ≤ 240 → trail ≡ trailOf τ →
-        r ≡ leastBound (rulesOf (patternOf m n nonzeros (now (list .entry))) cap) least (τ ∷ beginningsLater τ)) ⌝ }
+        r ≡ leastBound (rulesOf (patternOf m n nonzeros (now (list .entry))) caps) least (τ ∷ beginningsLater (unequal caps) τ)) ⌝ }
 {
     let mut s = trail;
-    let mut so_far = least_with(m, n, nonzeros, list, cap, places, starts, trail, least);
+    let mut so_far = least_with(m, n, nonzeros, list, caps, places, starts, trail, least);
     while s.has_last() {
-        so_far = least_later(m, n, nonzeros, list, cap, places, starts, s, so_far);
+        so_far = least_later(m, n, nonzeros, list, caps, places, starts, s, so_far);
         s = s.drop();
     }
     so_far

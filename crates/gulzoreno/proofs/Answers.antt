@@ -10,6 +10,7 @@ use Rattle.model.proofs.ShowAnswer.{enum}
 use Rattle.model.specs.declared.Word.{Word}
 use Rattle.model.specs.declared.Verdict.{Verdict}
 use Rattle.model.specs.declared.Verdict.the-variants.{Accepted, Refused}
+use Rattle.model.specs.declared.Caps.{Caps}
 use Rattle.model.specs.declared.Search.{Search}
 use Rattle.model.specs.declared.Opened.{Opened}
 use Rattle.model.specs.declared.Ran.{Ran}
@@ -88,27 +89,27 @@ module _
 
 -- the whole call
 module _
-    (m n nonzeros : ℕ) (list : List ℕ) (cap budget : ℕ) (parts figures : List ℕ)
-    (opened : Opened) (is-opened : opened ≡ openCall m n nonzeros list cap)
+    (m n nonzeros : ℕ) (list : List ℕ) (caps : Caps) (budget : ℕ) (parts figures : List ℕ)
+    (opened : Opened) (is-opened : opened ≡ openCall m n nonzeros list caps)
     (later verdict : Verdict) (is-later : later ≡ outputVerdict nonzeros budget parts figures)
     (is-verdict : verdict ≡ (opened .verdict then later)) where
   -- the checks are those of the paper
-  pub verdict-is : verdict ≡ hostVerdict m n nonzeros list cap budget parts figures
+  pub verdict-is : verdict ≡ hostVerdict m n nonzeros list caps budget parts figures
   unfolding hostVerdict openCall
   verdict-is =
       is-verdict
       ∙ ap (λ (o : Opened). o .verdict then later) is-opened
-      ∙ ap (λ (v : Verdict). openVerdict m n nonzeros list cap then v) is-later
+      ∙ ap (λ (v : Verdict). openVerdict m n nonzeros list caps then v) is-later
 
   -- all are passed: what is run and shown counts
   module _ (e : verdict ≡ Accepted) where
-    passed : hostVerdict m n nonzeros list cap budget parts figures ≡ Accepted
+    passed : hostVerdict m n nonzeros list caps budget parts figures ≡ Accepted
     passed = sym verdict-is ∙ e
 
     pub accepted-code :
         (r : ℕ) →
         r ≡ showCode (showCall (runCall (opened .search) m n nonzeros list budget .search) m n nonzeros list parts) →
-        r ≡ bipartitionCode m n nonzeros list cap budget parts figures
+        r ≡ bipartitionCode m n nonzeros list caps budget parts figures
     unfolding bipartitionCode hostCodeAfter hostSearch
     accepted-code r h =
         h
@@ -116,13 +117,13 @@ module _
         (λ (o : Opened). showCode (showCall (runCall (o .search) m n nonzeros list budget .search) m n nonzeros list parts))
         is-opened
         ∙ ap
-        (λ (v : Verdict). hostCodeAfter v (showCall (hostSearch m n nonzeros list cap budget) m n nonzeros list parts))
+        (λ (v : Verdict). hostCodeAfter v (showCall (hostSearch m n nonzeros list caps budget) m n nonzeros list parts))
         (sym passed)
 
     pub accepted-parts :
         (new : List ℕ) →
         new ≡ showParts (runCall (opened .search) m n nonzeros list budget .search) m n nonzeros list parts →
-        new ≡ bipartitionParts m n nonzeros list cap budget parts figures
+        new ≡ bipartitionParts m n nonzeros list caps budget parts figures
     unfolding bipartitionParts hostPartsAfter hostSearch
     accepted-parts new h =
         h
@@ -130,7 +131,7 @@ module _
         (λ (o : Opened). showParts (runCall (o .search) m n nonzeros list budget .search) m n nonzeros list parts)
         is-opened
         ∙ ap
-        (λ (v : Verdict). hostPartsAfter v (showParts (hostSearch m n nonzeros list cap budget) m n nonzeros list parts) parts)
+        (λ (v : Verdict). hostPartsAfter v (showParts (hostSearch m n nonzeros list caps budget) m n nonzeros list parts) parts)
         (sym passed)
 
     pub accepted-figures :
@@ -140,7 +141,7 @@ module _
         (showCall (runCall (opened .search) m n nonzeros list budget .search) m n nonzeros list parts)
         (runCall (opened .search) m n nonzeros list budget .search)
         figures →
-        new ≡ bipartitionFigures m n nonzeros list cap budget parts figures
+        new ≡ bipartitionFigures m n nonzeros list caps budget parts figures
     unfolding bipartitionFigures hostFiguresAfter hostSearch
     accepted-figures new h =
         h
@@ -155,39 +156,39 @@ module _
         (λ (v : Verdict).
         hostFiguresAfter
         v
-        (showCall (hostSearch m n nonzeros list cap budget) m n nonzeros list parts)
-        (hostSearch m n nonzeros list cap budget)
+        (showCall (hostSearch m n nonzeros list caps budget) m n nonzeros list parts)
+        (hostSearch m n nonzeros list caps budget)
         figures)
         (sym passed)
 
   -- one refuses: nothing is written
   module _ (word : Word) (place : ℕ) (e : verdict ≡ Refused word place) where
-    pub stopped : hostVerdict m n nonzeros list cap budget parts figures ≡ Refused word place
+    pub stopped : hostVerdict m n nonzeros list caps budget parts figures ≡ Refused word place
     stopped = sym verdict-is ∙ e
 
-    pub stopped-code : (r : ℕ) → r ≡ refusalCode word place → r ≡ bipartitionCode m n nonzeros list cap budget parts figures
+    pub stopped-code : (r : ℕ) → r ≡ refusalCode word place → r ≡ bipartitionCode m n nonzeros list caps budget parts figures
     unfolding bipartitionCode hostCodeAfter
     stopped-code r h =
         h
         ∙ ap
-        (λ (v : Verdict). hostCodeAfter v (showCall (hostSearch m n nonzeros list cap budget) m n nonzeros list parts))
+        (λ (v : Verdict). hostCodeAfter v (showCall (hostSearch m n nonzeros list caps budget) m n nonzeros list parts))
         (sym stopped)
 
-    pub stopped-parts : parts ≡ bipartitionParts m n nonzeros list cap budget parts figures
+    pub stopped-parts : parts ≡ bipartitionParts m n nonzeros list caps budget parts figures
     unfolding bipartitionParts hostPartsAfter
     stopped-parts =
         ap
-        (λ (v : Verdict). hostPartsAfter v (showParts (hostSearch m n nonzeros list cap budget) m n nonzeros list parts) parts)
+        (λ (v : Verdict). hostPartsAfter v (showParts (hostSearch m n nonzeros list caps budget) m n nonzeros list parts) parts)
         (sym stopped)
 
-    pub stopped-figures : figures ≡ bipartitionFigures m n nonzeros list cap budget parts figures
+    pub stopped-figures : figures ≡ bipartitionFigures m n nonzeros list caps budget parts figures
     unfolding bipartitionFigures hostFiguresAfter
     stopped-figures =
         ap
         (λ (v : Verdict).
         hostFiguresAfter
         v
-        (showCall (hostSearch m n nonzeros list cap budget) m n nonzeros list parts)
-        (hostSearch m n nonzeros list cap budget)
+        (showCall (hostSearch m n nonzeros list caps budget) m n nonzeros list parts)
+        (hostSearch m n nonzeros list caps budget)
         figures)
         (sym stopped)

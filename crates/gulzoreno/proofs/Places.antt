@@ -4,7 +4,7 @@ use mathlib.Core.Bool.{Bool, true, false, not}
 use mathlib.Core.List.{List}
 use mathlib.Core.Option.{Option, some, none}
 use mathlib.Core.Path.{_≡_, refl}
-use Prim.Native.Nat.{ℕ, zero, suc, _*_, _≤_}
+use Prim.Native.Nat.{ℕ, zero, suc, _+_, _*_, _≤_}
 use native.Mathlib.Omega.{arith}
 use lib.Dec.{ltb, leb}
 use lib.ListN.{length}
@@ -14,11 +14,13 @@ use Rattle.model.specs.declared.Word.{Word}
 use Rattle.model.specs.declared.Word.the-variants.{TooBig, OffMatrix, ShortBuffer, Order, Cap, NoSplit, Budget, State}
 use Rattle.model.specs.declared.Verdict.{Verdict}
 use Rattle.model.specs.declared.Verdict.the-variants.{Accepted, Refused}
+use Rattle.model.specs.declared.Caps.{Caps}
 use Rattle.model.specs.declared.Search.{Search}
 use Rattle.model.specs.declared.ShowAnswer.the-variants as show-answer
-use Rattle.model.specs.Limits.{nonzeroLimit, capLimit, budgetLimit}
+use Rattle.model.specs.Limits.{nonzeroLimit, budgetLimit}
 use Rattle.model.specs.Refusal.{refuse, _then_, eachVerdict}
 use Rattle.model.specs.Pattern.{entryBytes, rowIn, columnIn, patternOf}
+use Rattle.model.specs.Split.{capsOutside}
 use Rattle.model.specs.Walk.{Record, rulesOf}
 use Rattle.model.specs.State.{recordOf, stateFine}
 use Rattle.model.specs.Calls.{sizesVerdict, rises, entryVerdict, entriesVerdict, listVerdict, openVerdict, showVerdict, shown, shownAfter, showCall}
@@ -88,15 +90,15 @@ module _ (m n nonzeros : ℕ) (list : List ℕ) where
       (λ e. entries-to m n list nonzeros nonzeroLimit (nonzeros-small m n nonzeros (then-first (sizesVerdict m n nonzeros) (refuse (ltb (length list) (entryBytes * nonzeros)) ShortBuffer 0) e)))
 
   -- the C function's checks
-  open-to : (cap : ℕ) → PlaceTo nonzeroLimit (openVerdict m n nonzeros list cap)
+  open-to : (caps : Caps) → PlaceTo nonzeroLimit (openVerdict m n nonzeros list caps)
   unfolding openVerdict
-  open-to cap =
+  open-to caps =
       then-to
       nonzeroLimit
-      (listVerdict m n nonzeros list then refuse (ltb capLimit cap) Cap 0)
-      (refuse (ltb (2 * cap) nonzeros) NoSplit 0)
-      (then-to nonzeroLimit (listVerdict m n nonzeros list) (refuse (ltb capLimit cap) Cap 0) list-to (λ e. refuse-to nonzeroLimit (ltb capLimit cap) Cap 0 (omega arith)))
-      (λ e. refuse-to nonzeroLimit (ltb (2 * cap) nonzeros) NoSplit 0 (omega arith))
+      (listVerdict m n nonzeros list then refuse (capsOutside caps) Cap 0)
+      (refuse (ltb (caps .cap0 + caps .cap1) nonzeros) NoSplit 0)
+      (then-to nonzeroLimit (listVerdict m n nonzeros list) (refuse (capsOutside caps) Cap 0) list-to (λ e. refuse-to nonzeroLimit (capsOutside caps) Cap 0 (omega arith)))
+      (λ e. refuse-to nonzeroLimit (ltb (caps .cap0 + caps .cap1) nonzeros) NoSplit 0 (omega arith))
 
   output-to : (budget : ℕ) (parts figures : List ℕ) → PlaceTo nonzeroLimit (outputVerdict nonzeros budget parts figures)
   unfolding outputVerdict
@@ -109,21 +111,21 @@ module _ (m n nonzeros : ℕ) (list : List ℕ) where
       (λ e. refuse-to nonzeroLimit (ltb (length parts) nonzeros or ltb (length figures) figuresBytes) ShortBuffer 0 (omega arith))
 
   pub host-place :
-      (cap budget : ℕ) (parts figures : List ℕ) {word : Word} {place : ℕ} →
-      hostVerdict m n nonzeros list cap budget parts figures ≡ Refused word place → place ≤ nonzeroLimit
+      (caps : Caps) (budget : ℕ) (parts figures : List ℕ) {word : Word} {place : ℕ} →
+      hostVerdict m n nonzeros list caps budget parts figures ≡ Refused word place → place ≤ nonzeroLimit
   unfolding hostVerdict
-  host-place cap budget parts figures e =
+  host-place caps budget parts figures e =
       place-to
       nonzeroLimit
-      (openVerdict m n nonzeros list cap then outputVerdict nonzeros budget parts figures)
-      (then-to nonzeroLimit (openVerdict m n nonzeros list cap) (outputVerdict nonzeros budget parts figures) (open-to cap) (λ f. output-to budget parts figures))
+      (openVerdict m n nonzeros list caps then outputVerdict nonzeros budget parts figures)
+      (then-to nonzeroLimit (openVerdict m n nonzeros list caps) (outputVerdict nonzeros budget parts figures) (open-to caps) (λ f. output-to budget parts figures))
       e
 
   -- a showing's checks
   show-to : (r : Record) (parts : List ℕ) → PlaceTo nonzeroLimit (showVerdict r m n nonzeros list parts)
   unfolding showVerdict
   show-to r parts =
-      let fine = stateFine (rulesOf (patternOf m n nonzeros list) (r .cap)) m n nonzeros r in
+      let fine = stateFine (rulesOf (patternOf m n nonzeros list) (r .caps)) m n nonzeros r in
       then-to
       nonzeroLimit
       (listVerdict m n nonzeros list then refuse (not fine) State 0)
@@ -133,11 +135,11 @@ module _ (m n nonzeros : ℕ) (list : List ℕ) where
 
   -- an accepted showing answers no refusal
   given :
-      (cap low : ℕ) (best : Option (List ℕ)) {word : Word} {place : ℕ} →
-      shown (patternOf m n nonzeros list) cap best low ≡ show-answer.Refused word place → place ≤ nonzeroLimit
+      (caps : Caps) (low : ℕ) (best : Option (List ℕ)) {word : Word} {place : ℕ} →
+      shown (patternOf m n nonzeros list) caps best low ≡ show-answer.Refused word place → place ≤ nonzeroLimit
   unfolding shown
-  given cap low none e = never (cc)
-  given cap low (some best) e = never (cc)
+  given caps low none e = never (cc)
+  given caps low (some best) e = never (cc)
 
   after :
       (s : Search) (v : Verdict) {word : Word} {place : ℕ} → PlaceTo nonzeroLimit v →

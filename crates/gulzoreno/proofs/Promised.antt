@@ -11,6 +11,7 @@ use Rattle.counting.proofs.Joined.{no-way}
 use Rattle.counting.proofs.Counted.{count-most}
 use Rattle.model.specs.declared.Verdict.{Verdict}
 use Rattle.model.specs.declared.Verdict.the-variants.{Accepted, Refused}
+use Rattle.model.specs.declared.Caps.{Caps}
 use Rattle.model.specs.declared.ShowAnswer.{ShowAnswer}
 use Rattle.model.specs.declared.ShowAnswer.the-variants as show-answer
 use Rattle.model.specs.Limits.{lineLimit}
@@ -55,28 +56,28 @@ volume-most : (P : Pattern) (σ : Split) → volume P σ ≤ lines P
 volume-most P σ = omega (arith, volume-is-cuts P σ, count-most (isCut P σ) (lines P))
 
 module _
-    (m n nonzeros : ℕ) (list : List ℕ) (cap budget : ℕ) (parts figures : List ℕ)
-    (zero-answered : bipartitionCode m n nonzeros list cap budget parts figures ≡ 0) where
+    (m n nonzeros : ℕ) (list : List ℕ) (caps : Caps) (budget : ℕ) (parts figures : List ℕ)
+    (zero-answered : bipartitionCode m n nonzeros list caps budget parts figures ≡ 0) where
   abbrev P : Pattern
   P = patternOf m n nonzeros list
 
   abbrev r : Record
-  r = walked P cap budget
+  r = walked P caps budget
 
-  accepted : hostVerdict m n nonzeros list cap budget parts figures ≡ Accepted
+  accepted : hostVerdict m n nonzeros list caps budget parts figures ≡ Accepted
   unfolding bipartitionCode
   accepted =
       code-accepted
-      (hostVerdict m n nonzeros list cap budget parts figures)
-      (showCall (hostSearch m n nonzeros list cap budget) m n nonzeros list parts)
+      (hostVerdict m n nonzeros list caps budget parts figures)
+      (showCall (hostSearch m n nonzeros list caps budget) m n nonzeros list parts)
       zero-answered
 
   -- the split answered
   abbrev Shown : ShowAnswer
-  Shown = showCall (hostSearch m n nonzeros list cap budget) m n nonzeros list parts
+  Shown = showCall (hostSearch m n nonzeros list caps budget) m n nonzeros list parts
 
   found : (shown low : ℕ) × (Shown ≡ show-answer.Split shown low)
-  found = code-split Shown (sym (code-is m n nonzeros list cap budget parts figures accepted) ∙ zero-answered)
+  found = code-split Shown (sym (code-is m n nonzeros list caps budget parts figures accepted) ∙ zero-answered)
 
   abbrev shown : ℕ
   shown = found .0
@@ -86,48 +87,48 @@ module _
 
   -- what demand 3 says of it, read off the parts written
   split :
-      SplitAnswered P cap r parts shown low (bipartitionParts m n nonzeros list cap budget parts figures)
+      SplitAnswered P caps r parts shown low (bipartitionParts m n nonzeros list caps budget parts figures)
   split =
       rw
-      (parts-are m n nonzeros list cap budget parts figures accepted)
-      (told m n nonzeros list cap budget parts figures accepted .split shown low (found .2))
+      (parts-are m n nonzeros list caps budget parts figures accepted)
+      (told m n nonzeros list caps budget parts figures accepted .split shown low (found .2))
 
   figures-written :
-      bipartitionFigures m n nonzeros list cap budget parts figures ≡ withFigures shown (r .tries) low (r .complete) figures
+      bipartitionFigures m n nonzeros list caps budget parts figures ≡ withFigures shown (r .tries) low (r .complete) figures
   unfolding figuresShown searchOf
   figures-written =
-      figures-are m n nonzeros list cap budget parts figures accepted
+      figures-are m n nonzeros list caps budget parts figures accepted
       ∙ ap (λ (a : ShowAnswer). figuresShown a (searchOf r) figures) (found .2)
 
   -- the numbers are small
   few : lines P ≤ 2 * lineLimit
   unfolding lines patternOf
   few =
-      let fine = list-accepted m n nonzeros list (listed m n nonzeros list cap budget parts figures accepted) in
+      let fine = list-accepted m n nonzeros list (listed m n nonzeros list caps budget parts figures accepted) in
       omega (arith, fine .rows-to, fine .columns-to)
 
   shown-fits : shown < 256 ^ 8
   shown-fits =
-      omega (arith, split .volume-is, volume-most P (splitOf (bipartitionParts m n nonzeros list cap budget parts figures)), few)
+      omega (arith, split .volume-is, volume-most P (splitOf (bipartitionParts m n nonzeros list caps budget parts figures)), few)
 
   tries-fit : r .tries < 256 ^ 8
-  tries-fit = omega (arith, at-end m n nonzeros list cap budget parts figures accepted .tries-limit)
+  tries-fit = omega (arith, at-end m n nonzeros list caps budget parts figures accepted .tries-limit)
 
   low-fits : low < 256 ^ 8
   low-fits =
       omega (
         arith,
-        split .floor-below (splitOf (bipartitionParts m n nonzeros list cap budget parts figures)) (split .meets),
+        split .floor-below (splitOf (bipartitionParts m n nonzeros list caps budget parts figures)) (split .meets),
         split .volume-is,
         shown-fits,
       )
 
   -- they are read off the figures
   abbrev F : List ℕ
-  F = bipartitionFigures m n nonzeros list cap budget parts figures
+  F = bipartitionFigures m n nonzeros list caps budget parts figures
 
   long : figuresBytes ≤ length figures
-  long = figures-long m n nonzeros list cap budget parts figures accepted
+  long = figures-long m n nonzeros list caps budget parts figures accepted
 
   volume-is : figureIn 0 F ≡ shown
   volume-is =
@@ -150,14 +151,14 @@ module _
       ∙ reading.complete-back _ _ _ (r .complete) figures long shown-fits tries-fit low-fits
 
   -- a floor that no split undercuts, and that a complete search's split reaches
-  floor-under : (σ : Split) → Meets P cap σ → figureIn 2 F ≤ volume P σ
+  floor-under : (σ : Split) → Meets P caps σ → figureIn 2 F ≤ volume P σ
   floor-under σ meets = omega (arith, floor-is, split .floor-below σ meets)
 
   closes : figureIn 3 F ≡ 1 → figureIn 2 F ≡ figureIn 0 F
   closes h = floor-is ∙ split .complete-closed (complete-so (r .complete) (sym complete-is ∙ h)) ∙ sym volume-is
 
   -- the promise
-  pub promise-kept : Promise P cap budget (bipartitionParts m n nonzeros list cap budget parts figures) F
+  pub promise-kept : Promise P caps budget (bipartitionParts m n nonzeros list caps budget parts figures) F
   promise-kept =
       record {
         meets = split .meets;

@@ -5,6 +5,7 @@ use mathlib.Core.Path.{_≡_, refl}
 use Prim.Native.Nat.{ℕ}
 use Rattle.model.specs.declared.Verdict.{Verdict}
 use Rattle.model.specs.declared.Verdict.the-variants.{Accepted, Refused}
+use Rattle.model.specs.declared.Caps.{Caps}
 use Rattle.model.specs.declared.Search.{Search}
 use Rattle.model.specs.declared.ShowAnswer.{ShowAnswer}
 use Rattle.model.specs.declared.ShowAnswer.the-variants as show-answer
@@ -33,19 +34,19 @@ module _ (s : Search) (m n nonzeros : ℕ) (list parts figures : List ℕ) where
   by-verdict (Refused word place) h = (refl, refl)
 
 pub bipartition-refused :
-    (m n nonzeros : ℕ) (list : List ℕ) (cap budget : ℕ) (parts figures : List ℕ) →
-    (bipartitionCode m n nonzeros list cap budget parts figures ≡ 0 → ⊥) →
-    (bipartitionParts m n nonzeros list cap budget parts figures ≡ parts)
-    × (bipartitionFigures m n nonzeros list cap budget parts figures ≡ figures)
+    (m n nonzeros : ℕ) (list : List ℕ) (caps : Caps) (budget : ℕ) (parts figures : List ℕ) →
+    (bipartitionCode m n nonzeros list caps budget parts figures ≡ 0 → ⊥) →
+    (bipartitionParts m n nonzeros list caps budget parts figures ≡ parts)
+    × (bipartitionFigures m n nonzeros list caps budget parts figures ≡ figures)
 unfolding bipartitionCode bipartitionParts bipartitionFigures
-bipartition-refused m n nonzeros list cap budget parts figures h =
+bipartition-refused m n nonzeros list caps budget parts figures h =
     by-verdict
-    (hostSearch m n nonzeros list cap budget)
+    (hostSearch m n nonzeros list caps budget)
     m
     n
     nonzeros
     list
     parts
     figures
-    (hostVerdict m n nonzeros list cap budget parts figures)
+    (hostVerdict m n nonzeros list caps budget parts figures)
     h

@@ -13,6 +13,7 @@ use Rattle.counting.proofs.Joined.{or-fails-right}
 use Rattle.model.specs.declared.Word.the-variants.{ShortBuffer, Budget}
 use Rattle.model.specs.declared.Verdict.{Verdict}
 use Rattle.model.specs.declared.Verdict.the-variants.{Accepted}
+use Rattle.model.specs.declared.Caps.{Caps}
 use Rattle.model.specs.declared.Search.{Search}
 use Rattle.model.specs.declared.ShowAnswer.{ShowAnswer}
 use Rattle.model.specs.Limits.{budgetLimit}
@@ -29,26 +30,26 @@ use Rattle.gulzoreno.specs.Figures.{figuresBytes}
 use Rattle.gulzoreno.specs.Host.{outputVerdict, hostVerdict, hostSearch, hostCodeAfter, hostPartsAfter, figuresShown, hostFiguresAfter, bipartitionCode, bipartitionParts, bipartitionFigures}
 
 module _
-    (m n nonzeros : ℕ) (list : List ℕ) (cap budget : ℕ) (parts figures : List ℕ)
-    (accepted : hostVerdict m n nonzeros list cap budget parts figures ≡ Accepted) where
+    (m n nonzeros : ℕ) (list : List ℕ) (caps : Caps) (budget : ℕ) (parts figures : List ℕ)
+    (accepted : hostVerdict m n nonzeros list caps budget parts figures ≡ Accepted) where
   -- the pattern, and the walk's record after some tries
   abbrev P : Pattern
   P = patternOf m n nonzeros list
 
   abbrev after : ℕ → Record
-  after tries = walked P cap tries
+  after tries = walked P caps tries
 
   -- what each check says
-  opens : openVerdict m n nonzeros list cap ≡ Accepted
+  opens : openVerdict m n nonzeros list caps ≡ Accepted
   unfolding hostVerdict
-  opens = then-first (openVerdict m n nonzeros list cap) (outputVerdict nonzeros budget parts figures) accepted
+  opens = then-first (openVerdict m n nonzeros list caps) (outputVerdict nonzeros budget parts figures) accepted
 
   pub listed : listVerdict m n nonzeros list ≡ Accepted
-  listed = open-accepted m n nonzeros list cap opens .listed
+  listed = open-accepted m n nonzeros list caps opens .listed
 
   output : outputVerdict nonzeros budget parts figures ≡ Accepted
   unfolding hostVerdict
-  output = then-second (openVerdict m n nonzeros list cap) (outputVerdict nonzeros budget parts figures) accepted
+  output = then-second (openVerdict m n nonzeros list caps) (outputVerdict nonzeros budget parts figures) accepted
 
   within-budget : budget ≤ budgetLimit
   unfolding outputVerdict
@@ -71,33 +72,33 @@ module _
   figures-long = ltb-false (length figures) figuresBytes (or-fails-right (ltb (length parts) nonzeros) (ltb (length figures) figuresBytes) long)
 
   -- the run and the showing
-  pub at-end : Demand m n nonzeros list cap (hostSearch m n nonzeros list cap budget) budget
+  pub at-end : Demand m n nonzeros list caps (hostSearch m n nonzeros list caps budget) budget
   unfolding hostSearch
-  at-end = one-run.at-end m n nonzeros list cap budget opens within-budget
+  at-end = one-run.at-end m n nonzeros list caps budget opens within-budget
 
   abbrev pub Shown : ShowAnswer
-  Shown = showCall (hostSearch m n nonzeros list cap budget) m n nonzeros list parts
+  Shown = showCall (hostSearch m n nonzeros list caps budget) m n nonzeros list parts
 
   abbrev pub Left : List ℕ
-  Left = showParts (hostSearch m n nonzeros list cap budget) m n nonzeros list parts
+  Left = showParts (hostSearch m n nonzeros list caps budget) m n nonzeros list parts
 
   pub told :
-      ShowAnswered P cap (after budget) (showVerdict (after budget) m n nonzeros list parts) parts Shown Left
+      ShowAnswered P caps (after budget) (showVerdict (after budget) m n nonzeros list parts) parts Shown Left
   unfolding hostSearch
-  told = one-run.told m n nonzeros list cap budget opens within-budget parts
+  told = one-run.told m n nonzeros list caps budget opens within-budget parts
 
   -- the answer, the parts and the figures are those of this showing
-  pub code-is : bipartitionCode m n nonzeros list cap budget parts figures ≡ showCode Shown
+  pub code-is : bipartitionCode m n nonzeros list caps budget parts figures ≡ showCode Shown
   unfolding bipartitionCode hostCodeAfter
   code-is = ap (λ (v : Verdict). hostCodeAfter v Shown) accepted
 
-  pub parts-are : bipartitionParts m n nonzeros list cap budget parts figures ≡ Left
+  pub parts-are : bipartitionParts m n nonzeros list caps budget parts figures ≡ Left
   unfolding bipartitionParts hostPartsAfter
   parts-are = ap (λ (v : Verdict). hostPartsAfter v Left parts) accepted
 
   pub figures-are :
-      bipartitionFigures m n nonzeros list cap budget parts figures ≡ figuresShown Shown (searchOf (after budget)) figures
+      bipartitionFigures m n nonzeros list caps budget parts figures ≡ figuresShown Shown (searchOf (after budget)) figures
   unfolding bipartitionFigures hostFiguresAfter
   figures-are =
-      ap (λ (v : Verdict). hostFiguresAfter v Shown (hostSearch m n nonzeros list cap budget) figures) accepted
+      ap (λ (v : Verdict). hostFiguresAfter v Shown (hostSearch m n nonzeros list caps budget) figures) accepted
       ∙ ap (λ (s : Search). figuresShown Shown s figures) (at-end .whole)

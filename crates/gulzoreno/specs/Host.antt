@@ -8,6 +8,7 @@ use Rattle.counting.specs.Tests.{_or_}
 use Rattle.model.specs.declared.Word.the-variants.{ShortBuffer, Budget}
 use Rattle.model.specs.declared.Verdict.{Verdict}
 use Rattle.model.specs.declared.Verdict.the-variants.{Accepted, Refused}
+use Rattle.model.specs.declared.Caps.{Caps}
 use Rattle.model.specs.declared.Search.{Search}
 use Rattle.model.specs.declared.ShowAnswer.{ShowAnswer}
 use Rattle.model.specs.declared.ShowAnswer.the-variants as show-answer
@@ -23,14 +24,14 @@ outputVerdict nonzeros budget parts figures =
     then refuse (ltb (length parts) nonzeros or ltb (length figures) figuresBytes) ShortBuffer 0
 
 -- opens first, then checks budget, then its output slices
-unfoldable pub hostVerdict : ℕ → ℕ → ℕ → List ℕ → ℕ → ℕ → List ℕ → List ℕ → Verdict
-hostVerdict m n nonzeros list cap budget parts figures =
-    openVerdict m n nonzeros list cap then outputVerdict nonzeros budget parts figures
+unfoldable pub hostVerdict : ℕ → ℕ → ℕ → List ℕ → Caps → ℕ → List ℕ → List ℕ → Verdict
+hostVerdict m n nonzeros list caps budget parts figures =
+    openVerdict m n nonzeros list caps then outputVerdict nonzeros budget parts figures
 
 -- the search after an opening and one run
-unfoldable pub hostSearch : ℕ → ℕ → ℕ → List ℕ → ℕ → ℕ → Search
-hostSearch m n nonzeros list cap budget =
-    runCall (openCall m n nonzeros list cap .search) m n nonzeros list budget .search
+unfoldable pub hostSearch : ℕ → ℕ → ℕ → List ℕ → Caps → ℕ → Search
+hostSearch m n nonzeros list caps budget =
+    runCall (openCall m n nonzeros list caps .search) m n nonzeros list budget .search
 
 -- the answer after this verdict, by what is shown: 0, or 255 for "none yet", or a refusal as number + 256 × place
 unfoldable pub hostCodeAfter : Verdict → ShowAnswer → ℕ
@@ -55,25 +56,25 @@ hostFiguresAfter Accepted shown s figures = figuresShown shown s figures
 hostFiguresAfter (Refused word place) shown s figures = figures
 
 -- what the C function answers
-unfoldable pub bipartitionCode : ℕ → ℕ → ℕ → List ℕ → ℕ → ℕ → List ℕ → List ℕ → ℕ
-bipartitionCode m n nonzeros list cap budget parts figures =
+unfoldable pub bipartitionCode : ℕ → ℕ → ℕ → List ℕ → Caps → ℕ → List ℕ → List ℕ → ℕ
+bipartitionCode m n nonzeros list caps budget parts figures =
     hostCodeAfter
-    (hostVerdict m n nonzeros list cap budget parts figures)
-    (showCall (hostSearch m n nonzeros list cap budget) m n nonzeros list parts)
+    (hostVerdict m n nonzeros list caps budget parts figures)
+    (showCall (hostSearch m n nonzeros list caps budget) m n nonzeros list parts)
 
 -- the parts that it leaves
-unfoldable pub bipartitionParts : ℕ → ℕ → ℕ → List ℕ → ℕ → ℕ → List ℕ → List ℕ → List ℕ
-bipartitionParts m n nonzeros list cap budget parts figures =
+unfoldable pub bipartitionParts : ℕ → ℕ → ℕ → List ℕ → Caps → ℕ → List ℕ → List ℕ → List ℕ
+bipartitionParts m n nonzeros list caps budget parts figures =
     hostPartsAfter
-    (hostVerdict m n nonzeros list cap budget parts figures)
-    (showParts (hostSearch m n nonzeros list cap budget) m n nonzeros list parts)
+    (hostVerdict m n nonzeros list caps budget parts figures)
+    (showParts (hostSearch m n nonzeros list caps budget) m n nonzeros list parts)
     parts
 
 -- the figures that it leaves
-unfoldable pub bipartitionFigures : ℕ → ℕ → ℕ → List ℕ → ℕ → ℕ → List ℕ → List ℕ → List ℕ
-bipartitionFigures m n nonzeros list cap budget parts figures =
+unfoldable pub bipartitionFigures : ℕ → ℕ → ℕ → List ℕ → Caps → ℕ → List ℕ → List ℕ → List ℕ
+bipartitionFigures m n nonzeros list caps budget parts figures =
     hostFiguresAfter
-    (hostVerdict m n nonzeros list cap budget parts figures)
-    (showCall (hostSearch m n nonzeros list cap budget) m n nonzeros list parts)
-    (hostSearch m n nonzeros list cap budget)
+    (hostVerdict m n nonzeros list caps budget parts figures)
+    (showCall (hostSearch m n nonzeros list caps budget) m n nonzeros list parts)
+    (hostSearch m n nonzeros list caps budget)
     figures

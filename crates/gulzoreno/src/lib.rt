@@ -9,6 +9,7 @@ use pattern::refusals::refusal_number;
 ghost use mathlib.Core.Path.{_≡_};
 ghost use Prim.Native.Nat.{_≤_};
 ghost use Rattle.model.specs.Limits.{nonzeroLimit};
+ghost use Rattle.model.specs.Split.{capsOf};
 ghost use Rattle.model.specs.Refusal.{refusalCode};
 ghost use Rattle.model.specs.Calls.{runCall, showCall, showParts, showCode};
 ghost use Rattle.gulzoreno.specs.Host.{outputVerdict, figuresShown, bipartitionCode, bipartitionParts, bipartitionFigures};
@@ -67,24 +68,25 @@ fn run_and_show(
     }
 }
 
-// Splits a pattern under a cap within a budget of tries. Answers 0 with the parts and the figures (volume, tries, floor, complete) written, or
-// 255 for "none yet", or a refusal as number + 256 × place; with the last two nothing is written.
+// Splits a pattern under cap 0 and cap 1 within a budget of tries. Answers 0 with the parts and the figures (volume, tries, floor, complete)
+// written, or 255 for "none yet", or a refusal as number + 256 × place; with the last two nothing is written.
 #[no_mangle]
 pub extern "C" fn gulzoreno_bipartition(
     m: u64,
     n: u64,
     nonzeros: u64,
     list: &[u8],
-    cap: u64,
+    cap0: u64,
+    cap1: u64,
     budget: u64,
     parts: &mut [u8],
     figures: &mut [u8],
 ) -> u64
-    ensures answer { λ r. ⌜ r ≡ bipartitionCode m n nonzeros (now (list .entry)) cap budget (now (parts .entry)) (now (figures .entry)) ⌝ }
-    ensures parts { λ r. ⌜ now (parts .exit) ≡ bipartitionParts m n nonzeros (now (list .entry)) cap budget (now (parts .entry)) (now (figures .entry)) ⌝ }
-    ensures figures { λ r. ⌜ now (figures .exit) ≡ bipartitionFigures m n nonzeros (now (list .entry)) cap budget (now (parts .entry)) (now (figures .entry)) ⌝ }
+    ensures answer { λ r. ⌜ r ≡ bipartitionCode m n nonzeros (now (list .entry)) (capsOf cap0 cap1) budget (now (parts .entry)) (now (figures .entry)) ⌝ }
+    ensures parts { λ r. ⌜ now (parts .exit) ≡ bipartitionParts m n nonzeros (now (list .entry)) (capsOf cap0 cap1) budget (now (parts .entry)) (now (figures .entry)) ⌝ }
+    ensures figures { λ r. ⌜ now (figures .exit) ≡ bipartitionFigures m n nonzeros (now (list .entry)) (capsOf cap0 cap1) budget (now (parts .entry)) (now (figures .entry)) ⌝ }
 {
-    let opened = search::open(m, n, nonzeros, list, cap);
+    let opened = search::open(m, n, nonzeros, list, cap0, cap1);
     let first = opened.verdict;
     let later = output_verdict(nonzeros, budget, parts, figures);
     let verdict = and_then(first, later);

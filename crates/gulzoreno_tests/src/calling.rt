@@ -1,4 +1,4 @@
-// A call that a case gives: name, sizes, list, cap, budget, and how many bytes are lent for parts and for figures.
+// A call that a case gives: name, sizes, list, cap 0, cap 1, budget, and how many bytes are lent for parts and for figures.
 use crate::lending::lend;
 use testing::Kind;
 use testing::cases::field_at;
@@ -13,8 +13,9 @@ pub(crate) fn call(cases: &[u8], at: usize) -> usize {
     let n = number_at(cases, m.next);
     let nonzeros = number_at(cases, n.next);
     let listed = field_at(cases, nonzeros.next, Kind::Numbers, &mut list);
-    let cap = number_at(cases, listed.next);
-    let budget = number_at(cases, cap.next);
+    let cap0 = number_at(cases, listed.next);
+    let cap1 = number_at(cases, cap0.next);
+    let budget = number_at(cases, cap1.next);
     let parts = number_at(cases, budget.next);
     let figures = number_at(cases, parts.next);
     lend(
@@ -22,7 +23,8 @@ pub(crate) fn call(cases: &[u8], at: usize) -> usize {
         n.value,
         nonzeros.value,
         first(&list, listed.value as usize),
-        cap.value,
+        cap0.value,
+        cap1.value,
         budget.value,
         parts.value as usize,
         figures.value as usize,

@@ -20,7 +20,8 @@ pub(crate) fn lend(
     n: u64,
     nonzeros: u64,
     list: &[u8],
-    cap: u64,
+    cap0: u64,
+    cap1: u64,
     budget: u64,
     part_room: usize,
     figure_room: usize,
@@ -31,7 +32,17 @@ pub(crate) fn lend(
         if figure_room <= 33 {
             let parts = &mut part_page[0..part_room];
             let figures = &mut figure_page[0..figure_room];
-            let answer = gulzoreno_bipartition(m, n, nonzeros, list, cap, budget, parts, figures);
+            let answer = gulzoreno_bipartition(
+                m,
+                n,
+                nonzeros,
+                list,
+                cap0,
+                cap1,
+                budget,
+                parts,
+                figures,
+            );
             say_answer(answer, parts, figures);
         }
     }

@@ -19,7 +19,7 @@ fn case_at(cases: &[u8], at: usize) -> usize {
 
 // Reads the cases, and answers each of them in turn.
 fn main() {
-    let mut cases = [0u8; 4096];
+    let mut cases = [0u8; 8192];
     let len = io::read_full(STDIN_FILENO, &mut cases);
     let mut at: usize = 0;
     while at < len {

@@ -3,6 +3,7 @@
 use mathlib.Core.List.{List}
 use mathlib.Core.Path.{_≡_}
 use Prim.Native.Nat.{ℕ, _+_}
+use Rattle.model.specs.declared.Caps.{Caps}
 use Rattle.model.specs.declared.Search.{Search}
 use Rattle.model.specs.declared.RunAnswer.{RunAnswer}
 use Rattle.model.specs.declared.Ran.{Ran}
@@ -14,10 +15,10 @@ both run answers leaves = rw (answers, leaves)
 
 -- an answer and a search that meet the contract of `lent::run`, and of `lent::try_once` with budget 1
 pub run-steps :
-    {m n nonzeros : ℕ} {list : List ℕ} {cap : ℕ} {before : Search} {total : ℕ} → History m n nonzeros list cap before total →
+    {m n nonzeros : ℕ} {list : List ℕ} {caps : Caps} {before : Search} {total : ℕ} → History m n nonzeros list caps before total →
     (handed : Handed m n nonzeros list) (budget : ℕ) (answer : RunAnswer) (after : Search) →
     answer ≡ runOf before handed budget .answer →
     after ≡ runOf before handed budget .search →
-    History m n nonzeros list cap after (total + acceptedBudget answer budget)
-run-steps {m} {n} {nonzeros} {list} {cap} {before} {total} h handed budget answer after answers leaves =
+    History m n nonzeros list caps after (total + acceptedBudget answer budget)
+run-steps {m} {n} {nonzeros} {list} {caps} {before} {total} h handed budget answer after answers leaves =
     ran h handed budget (record { answer = answer; search = after }) (both (runOf before handed budget) answers leaves)

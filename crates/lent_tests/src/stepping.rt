@@ -94,7 +94,7 @@ fn listed() -> [u8; 8] {
 // A fresh search of the pattern.
 pub(crate) fn fresh() -> Search {
     let list = listed();
-    let opened = search::open(3, 2, 4, &list, 2);
+    let opened = search::open(3, 2, 4, &list, 2, 2);
     opened.search
 }
 

@@ -14,7 +14,8 @@ use writing::write::write;
 fn write_once(m: u64, n: u64, nonzeros: u64, list: &[u8], parts: &[u8], out: &mut [u8]) -> usize {
     let figures = Figures {
         volume: u64::MAX,
-        cap: u64::MAX,
+        cap0: u64::MAX,
+        cap1: u64::MAX,
         rest: u64::MAX,
         tries: u64::MAX,
         floor: u64::MAX,

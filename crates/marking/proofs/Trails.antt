@@ -13,7 +13,7 @@ use borrow.Author.Tests.{lt-ltb, le-ltb, ne-eqb}
 use Rattle.counting.specs.Tests.{_or_, pick}
 use Rattle.counting.proofs.Joined.{no-way, or-eq, or-fails, pick-true}
 use Rattle.trail.specs.declared.Trail.{Trail}
-use Rattle.trail.specs.Trail.{topOf, trailWith, withMark, appended, dropped, markOr, lastMark, replaced, replacedAt, isPart, givesPartIn, partBefore, uncut, nextMark, lastAdvanced, advanced}
+use Rattle.trail.specs.Trail.{topOf, trailWith, withMark, appended, dropped, markOr, lastMark, replaced, replacedAt, isPart, givesPartIn, partBefore, mayBeOne, uncut, nextMark, lastAdvanced, advanced}
 use Rattle.trail.proofs.Methods.{top-suc, at-top, at-none, dropped-at, uncut-more, uncut-done}
 use Rattle.model.specs.Walk.{givesPart, oneAllowed, afterZero, advance}
 use Rattle.model.specs.State.{stack, marksIn, arrayOf, trailOf}
@@ -96,7 +96,7 @@ gives-is marks zero = refl
 gives-is marks (suc d) = or-eq (part-tests (markOr 0 marks d)) (gives-is marks d)
 
 -- some mark before the last is 0 or 1
-pub before-is : (x : ℕ) (τ : List ℕ) → length τ < 240 → partBefore (trailOf (x ∷ τ)) ≡ givesPart τ
+before-is : (x : ℕ) (τ : List ℕ) → length τ < 240 → partBefore (trailOf (x ∷ τ)) ≡ givesPart τ
 unfolding partBefore trailOf
 before-is x τ b =
     ap (givesPartIn (arrayOf (x ∷ τ))) (top-suc (length τ))
@@ -107,18 +107,6 @@ before-is x τ b =
     ∙ stack-eq (λ i. getD (arrayOf (x ∷ τ)) i 0) (λ i. getD (arrayOf τ) i 0) (length τ) (array-before x τ)
     ∙ array-stack τ (omega arith))
 
--- the last mark, where it is not cut, becomes the next
-last-advanced-is :
-    (x : ℕ) (τ : List ℕ) → length τ < 240 →
-    lastAdvanced (trailOf (x ∷ τ)) ≡ trailOf (nextMark x (givesPart τ) ∷ τ)
-unfolding lastAdvanced
-last-advanced-is x τ b =
-    ap
-    (replaced (trailOf (x ∷ τ)))
-    (ap (λ (y : ℕ). nextMark y (partBefore (trailOf (x ∷ τ)))) (last-is x 0 τ b)
-    ∙ ap (nextMark x) (before-is x τ b))
-    ∙ replaced-is x (nextMark x (givesPart τ)) τ b
-
 next-after : (b : Bool) → nextMark 0 b ≡ pick b 1 2
 unfolding nextMark pick
 next-after true = refl
@@ -128,36 +116,56 @@ next-cut : (b : Bool) → nextMark 1 b ≡ 2
 unfolding nextMark
 next-cut b = refl
 
--- a trail whose last mark is not cut has that advanced
-advanced-last :
-    (x : ℕ) (τ : List ℕ) → length τ < 240 → x ≤ 1 → advanced (trailOf (x ∷ τ)) ≡ trailOf (nextMark x (givesPart τ) ∷ τ)
-unfolding advanced
-advanced-last x τ b h =
-    ap lastAdvanced (uncut-done (trailOf (x ∷ τ) .len) (trailOf (x ∷ τ)) (omega (arith, last-is x 0 τ b)))
-    ∙ last-advanced-is x τ b
+-- mark 1 may come first or not
+module _ (first : Bool) where
+  -- mark 1 is allowed as the last mark
+  pub may-is : (x : ℕ) (τ : List ℕ) → length τ < 240 → mayBeOne first (trailOf (x ∷ τ)) ≡ oneAllowed first τ
+  unfolding mayBeOne oneAllowed
+  may-is x τ b = ap (λ (part : Bool). first or part) (before-is x τ b)
 
--- a mark cut at the end goes
-advanced-dropped : (x : ℕ) (τ : List ℕ) → length τ < 240 → advanced (trailOf (suc (suc x) ∷ τ)) ≡ advanced (trailOf τ)
-unfolding advanced
-advanced-dropped x τ b =
-    ap lastAdvanced (uncut-more (trailOf (suc (suc x) ∷ τ)) (omega (arith, last-is (suc (suc x)) 0 τ b)))
-    ∙ ap (λ (t : Trail). lastAdvanced (uncut (t .len) t)) (dropped-is (suc (suc x)) τ b)
+  -- the last mark, where it is not cut, becomes the next
+  last-advanced-is :
+      (x : ℕ) (τ : List ℕ) → length τ < 240 →
+      lastAdvanced first (trailOf (x ∷ τ)) ≡ trailOf (nextMark x (oneAllowed first τ) ∷ τ)
+  unfolding lastAdvanced
+  last-advanced-is x τ b =
+      ap
+      (replaced (trailOf (x ∷ τ)))
+      (ap (λ (y : ℕ). nextMark y (mayBeOne first (trailOf (x ∷ τ)))) (last-is x 0 τ b)
+      ∙ ap (nextMark x) (may-is x τ b))
+      ∙ replaced-is x (nextMark x (oneAllowed first τ)) τ b
 
--- an empty trail stays empty
-advanced-none : advanced (trailOf []) ≡ trailOf []
-unfolding advanced lastAdvanced
-advanced-none =
-    ap lastAdvanced (uncut-done (trailOf [] .len) (trailOf []) (omega (arith, last-none 0)))
-    ∙ replaced-none (nextMark (lastMark (trailOf []) 0) (partBefore (trailOf [])))
+  -- a trail whose last mark is not cut has that advanced
+  advanced-last :
+      (x : ℕ) (τ : List ℕ) → length τ < 240 → x ≤ 1 → advanced first (trailOf (x ∷ τ)) ≡ trailOf (nextMark x (oneAllowed first τ) ∷ τ)
+  unfolding advanced
+  advanced-last x τ b h =
+      ap (lastAdvanced first) (uncut-done (trailOf (x ∷ τ) .len) (trailOf (x ∷ τ)) (omega (arith, last-is x 0 τ b)))
+      ∙ last-advanced-is x τ b
 
--- advance
-pub advanced-is : (τ : List ℕ) → length τ ≤ 240 → advanced (trailOf τ) ≡ trailOf (advance τ)
-unfolding advance afterZero oneAllowed
-advanced-is [] b = advanced-none
-advanced-is (zero ∷ τ) b =
-    advanced-last 0 τ (omega arith) (omega arith)
-    ∙ ap (λ (y : ℕ). trailOf (y ∷ τ)) (next-after (givesPart τ))
-advanced-is (suc zero ∷ τ) b =
-    advanced-last 1 τ (omega arith) (omega arith)
-    ∙ ap (λ (y : ℕ). trailOf (y ∷ τ)) (next-cut (givesPart τ))
-advanced-is (suc (suc x) ∷ τ) b = advanced-dropped x τ (omega arith) ∙ advanced-is τ (omega arith)
+  -- a mark cut at the end goes
+  advanced-dropped :
+      (x : ℕ) (τ : List ℕ) → length τ < 240 → advanced first (trailOf (suc (suc x) ∷ τ)) ≡ advanced first (trailOf τ)
+  unfolding advanced
+  advanced-dropped x τ b =
+      ap (lastAdvanced first) (uncut-more (trailOf (suc (suc x) ∷ τ)) (omega (arith, last-is (suc (suc x)) 0 τ b)))
+      ∙ ap (λ (t : Trail). lastAdvanced first (uncut (t .len) t)) (dropped-is (suc (suc x)) τ b)
+
+  -- an empty trail stays empty
+  advanced-none : advanced first (trailOf []) ≡ trailOf []
+  unfolding advanced lastAdvanced
+  advanced-none =
+      ap (lastAdvanced first) (uncut-done (trailOf [] .len) (trailOf []) (omega (arith, last-none 0)))
+      ∙ replaced-none (nextMark (lastMark (trailOf []) 0) (mayBeOne first (trailOf [])))
+
+  -- advance
+  pub advanced-is : (τ : List ℕ) → length τ ≤ 240 → advanced first (trailOf τ) ≡ trailOf (advance first τ)
+  unfolding advance afterZero
+  advanced-is [] b = advanced-none
+  advanced-is (zero ∷ τ) b =
+      advanced-last 0 τ (omega arith) (omega arith)
+      ∙ ap (λ (y : ℕ). trailOf (y ∷ τ)) (next-after (oneAllowed first τ))
+  advanced-is (suc zero ∷ τ) b =
+      advanced-last 1 τ (omega arith) (omega arith)
+      ∙ ap (λ (y : ℕ). trailOf (y ∷ τ)) (next-cut (oneAllowed first τ))
+  advanced-is (suc (suc x) ∷ τ) b = advanced-dropped x τ (omega arith) ∙ advanced-is τ (omega arith)

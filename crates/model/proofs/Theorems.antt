@@ -4,6 +4,8 @@ pub mod Spared
 pub mod Capped
 pub mod OfList
 pub mod Least
+pub mod EqualCaps
+pub mod Exchanged
 pub mod Ends
 pub mod Numbers
 pub mod Replies

@@ -12,8 +12,9 @@ use Rattle.model.specs.declared.Part.the-variants.{Zero, One}
 use Rattle.model.specs.declared.Mark.the-variants.{To, Cut}
 use Rattle.model.specs.declared.Condition.{Condition}
 use Rattle.model.specs.declared.Condition.the-variants.{Marked, Torn, Leaning, Untouched}
+use Rattle.model.specs.declared.Caps.{Caps}
 use Rattle.model.specs.Pattern.{Pattern, lines, rowLine, columnLine, on}
-use Rattle.model.specs.Split.{samePart}
+use Rattle.model.specs.Split.{samePart, capOf}
 use Rattle.model.specs.Marking.{Marking, takes, taken, condition}
 
 -- marked cut
@@ -80,13 +81,13 @@ unfoldable pub strikes : List ℕ → ℕ → ℕ → ℕ
 strikes [] s room = 0
 strikes (x ∷ xs) s room = pick (leb s room) 0 (suc (strikes xs (s - x) room))
 
--- the number struck for p
-unfoldable pub struck : Pattern → ℕ → Marking → Part → ℕ
-struck P cap μ p = strikes (leaningCounts P μ p) (atStake P μ p) (cap - taken P μ p)
+-- the number struck for p: the room is cap p - Dp
+unfoldable pub struck : Pattern → Caps → Marking → Part → ℕ
+struck P caps μ p = strikes (leaningCounts P μ p) (atStake P μ p) (capOf caps p - taken P μ p)
 
 -- L3: the number struck for both parts
-unfoldable pub L3 : Pattern → ℕ → Marking → ℕ
-L3 P cap μ = struck P cap μ Zero + struck P cap μ One
+unfoldable pub L3 : Pattern → Caps → Marking → ℕ
+L3 P caps μ = struck P caps μ Zero + struck P caps μ One
 
 -- conflict: a nonzero whose row and column lean to different parts
 unfoldable pub conflict : Pattern → Marking → ℕ → Bool
@@ -108,5 +109,5 @@ unfoldable pub L4 : Pattern → Marking → ℕ
 L4 P μ = mostChosen P μ (λ l. false) (P .size)
 
 -- bound: L1 + L2 + the larger of L3 and L4
-unfoldable pub bound : Pattern → ℕ → Marking → ℕ
-bound P cap μ = L1 P μ + L2 P μ + max (L3 P cap μ) (L4 P μ)
+unfoldable pub bound : Pattern → Caps → Marking → ℕ
+bound P caps μ = L1 P μ + L2 P μ + max (L3 P caps μ) (L4 P μ)

@@ -1,4 +1,5 @@
--- Document 01, 'Refusal table' and 'The walk': what an opening, a run and a showing answer, in the table's order of checks.
+-- Document 01, 'Refusal table' and 'The walk', with the two caps of document 02's request 5: what an opening, a run and a showing answer, in
+-- the table's order of checks.
 -- Assumes nothing.
 use mathlib.Core.Bool.{Bool, true, false, not}
 use mathlib.Core.List.{List, [], _∷_}
@@ -10,6 +11,7 @@ use Rattle.counting.specs.Tests.{_and_, _or_, bit}
 use Rattle.model.specs.declared.Word.the-variants.{TooBig, OffMatrix, ShortBuffer, Order, Cap, NoSplit, Budget, State}
 use Rattle.model.specs.declared.Verdict.{Verdict}
 use Rattle.model.specs.declared.Verdict.the-variants.{Accepted, Refused}
+use Rattle.model.specs.declared.Caps.{Caps}
 use Rattle.model.specs.declared.CapAnswer.{CapAnswer}
 use Rattle.model.specs.declared.CapAnswer.the-variants as cap-answer
 use Rattle.model.specs.declared.Search.{Search}
@@ -19,10 +21,10 @@ use Rattle.model.specs.declared.RunAnswer.the-variants as run-answer
 use Rattle.model.specs.declared.Ran.{Ran}
 use Rattle.model.specs.declared.ShowAnswer.{ShowAnswer}
 use Rattle.model.specs.declared.ShowAnswer.the-variants as show-answer
-use Rattle.model.specs.Limits.{lineLimit, nonzeroLimit, capLimit, percentLimit, budgetLimit, triesLimit}
+use Rattle.model.specs.Limits.{lineLimit, nonzeroLimit, percentLimit, budgetLimit, triesLimit}
 use Rattle.model.specs.Refusal.{Reply, given, noneYet, refusal, replyAfter, verdictReply, replyCode, refuse, _then_, eachVerdict}
 use Rattle.model.specs.Pattern.{Pattern, entryBytes, rowIn, columnIn, patternOf}
-use Rattle.model.specs.Split.{Split, partNumber, volume, capFromPercent, restFromPercent}
+use Rattle.model.specs.Split.{Split, bothCaps, capsOutside, partNumber, volume, capFromPercent, restFromPercent}
 use Rattle.model.specs.Marking.{marking}
 use Rattle.model.specs.Walk.{Record, rulesOf, freshOf, walk, floor, shownSplit}
 use Rattle.model.specs.State.{recordOf, searchOf, stateFine}
@@ -63,25 +65,25 @@ listVerdict m n nonzeros list =
     then refuse (ltb (length list) (entryBytes * nonzeros)) ShortBuffer 0
     then entriesVerdict m n list nonzeros
 
--- opening: the list's checks; then 11, 12
-unfoldable pub openVerdict : ℕ → ℕ → ℕ → List ℕ → ℕ → Verdict
-openVerdict m n nonzeros list cap =
+-- opening: the list's checks; then 11 if either cap is outside its range, and 12 if N exceeds their sum
+unfoldable pub openVerdict : ℕ → ℕ → ℕ → List ℕ → Caps → Verdict
+openVerdict m n nonzeros list caps =
     listVerdict m n nonzeros list
-    then refuse (ltb capLimit cap) Cap 0
-    then refuse (ltb (2 * cap) nonzeros) NoSplit 0
+    then refuse (capsOutside caps) Cap 0
+    then refuse (ltb (caps .cap0 + caps .cap1) nonzeros) NoSplit 0
 
 -- run: the list's checks, then 14, then 13
 unfoldable pub runVerdict : Record → ℕ → ℕ → ℕ → List ℕ → ℕ → Verdict
 runVerdict r m n nonzeros list budget =
     listVerdict m n nonzeros list
-    then refuse (not (stateFine (rulesOf (patternOf m n nonzeros list) (r .cap)) m n nonzeros r)) State 0
+    then refuse (not (stateFine (rulesOf (patternOf m n nonzeros list) (r .caps)) m n nonzeros r)) State 0
     then refuse (ltb budgetLimit budget or ltb triesLimit (r .tries + budget)) Budget 0
 
 -- showing: the list's checks, then 14, then 9 for its parts
 unfoldable pub showVerdict : Record → ℕ → ℕ → ℕ → List ℕ → List ℕ → Verdict
 showVerdict r m n nonzeros list parts =
     listVerdict m n nonzeros list
-    then refuse (not (stateFine (rulesOf (patternOf m n nonzeros list) (r .cap)) m n nonzeros r)) State 0
+    then refuse (not (stateFine (rulesOf (patternOf m n nonzeros list) (r .caps)) m n nonzeros r)) State 0
     then refuse (ltb (length parts) nonzeros) ShortBuffer 0
 
 -- the cap from e: 4 for N, then 11
@@ -106,7 +108,7 @@ noRecord =
       m = 0;
       n = 0;
       nonzeros = 0;
-      cap = 0;
+      caps = bothCaps 0;
       tries = 0;
       bestCount = 0;
       best = none;
@@ -115,17 +117,17 @@ noRecord =
     }
 
 -- the search that an opening answers, after this verdict
-unfoldable pub openedAfter : Verdict → Pattern → ℕ → Search
-openedAfter Accepted P cap = searchOf (freshOf P cap)
-openedAfter (Refused word place) P cap = searchOf noRecord
+unfoldable pub openedAfter : Verdict → Pattern → Caps → Search
+openedAfter Accepted P caps = searchOf (freshOf P caps)
+openedAfter (Refused word place) P caps = searchOf noRecord
 
 -- what an opening answers
-unfoldable pub openCall : ℕ → ℕ → ℕ → List ℕ → ℕ → Opened
-openCall m n nonzeros list cap =
-    let verdict = openVerdict m n nonzeros list cap in
+unfoldable pub openCall : ℕ → ℕ → ℕ → List ℕ → Caps → Opened
+openCall m n nonzeros list caps =
+    let verdict = openVerdict m n nonzeros list caps in
     record {
       verdict = verdict;
-      search = openedAfter verdict (patternOf m n nonzeros list) cap;
+      search = openedAfter verdict (patternOf m n nonzeros list) caps;
     }
 
 -- complete 0 or 1
@@ -139,7 +141,7 @@ ended false = run-answer.Stopped
 
 -- the record after an accepted run
 unfoldable pub ranRecord : Record → Pattern → ℕ → Record
-ranRecord r P budget = walk (rulesOf P (r .cap)) budget r
+ranRecord r P budget = walk (rulesOf P (r .caps)) budget r
 
 -- what a run answers, after this verdict; a refused one returns the search unchanged
 unfoldable pub ranAfter : Verdict → Search → Pattern → ℕ → Ran
@@ -159,13 +161,13 @@ runCall s m n nonzeros list budget =
     budget
 
 -- the split shown from a best marking
-unfoldable pub shownFrom : Pattern → ℕ → List ℕ → Split
-shownFrom P cap best = shownSplit P cap (marking P best)
+unfoldable pub shownFrom : Pattern → Caps → List ℕ → Split
+shownFrom P caps best = shownSplit P caps (marking P best)
 
 -- what an accepted showing gives: the volume of the shown split and the floor; without a best marking "none yet" and the floor
-unfoldable pub shown : Pattern → ℕ → Option (List ℕ) → ℕ → ShowAnswer
-shown P cap none floor = show-answer.NoneYet floor
-shown P cap (some best) floor = show-answer.Split (volume P (shownFrom P cap best)) floor
+unfoldable pub shown : Pattern → Caps → Option (List ℕ) → ℕ → ShowAnswer
+shown P caps none floor = show-answer.NoneYet floor
+shown P caps (some best) floor = show-answer.Split (volume P (shownFrom P caps best)) floor
 
 -- a parts buffer after a split is written to it: the part of each of the first nonzeros, and the bytes past them as they were
 unfoldable pub partBytes : Split → ℕ → List ℕ → List ℕ
@@ -173,18 +175,18 @@ partBytes σ zero parts = parts
 partBytes σ (suc t) parts = set (partBytes σ t parts) t (partNumber (σ t))
 
 -- the parts buffer after an accepted showing; at "none yet" all its bytes stay
-unfoldable pub shownParts : Pattern → ℕ → Option (List ℕ) → List ℕ → List ℕ
-shownParts P cap none parts = parts
-shownParts P cap (some best) parts = partBytes (shownFrom P cap best) (P .size) parts
+unfoldable pub shownParts : Pattern → Caps → Option (List ℕ) → List ℕ → List ℕ
+shownParts P caps none parts = parts
+shownParts P caps (some best) parts = partBytes (shownFrom P caps best) (P .size) parts
 
 -- what a showing answers, after this verdict
 unfoldable pub shownAfter : Verdict → Record → Pattern → ShowAnswer
-shownAfter Accepted r P = shown P (r .cap) (r .best) (floor (rulesOf P (r .cap)) r)
+shownAfter Accepted r P = shown P (r .caps) (r .best) (floor (rulesOf P (r .caps)) r)
 shownAfter (Refused word place) r P = show-answer.Refused word place
 
 -- the parts buffer after a showing with this verdict; a refused one leaves its bytes
 unfoldable pub partsAfter : Verdict → Record → Pattern → List ℕ → List ℕ
-partsAfter Accepted r P parts = shownParts P (r .cap) (r .best) parts
+partsAfter Accepted r P parts = shownParts P (r .caps) (r .best) parts
 partsAfter (Refused word place) r P parts = parts
 
 -- what a showing answers
@@ -222,16 +224,16 @@ showReply (show-answer.NoneYet floor) = noneYet (floor ∷ [])
 showReply (show-answer.Refused word place) = refusal word place
 
 -- what an accepted showing replies, by the best marking
-unfoldable pub shownReply : Pattern → ℕ → Option (List ℕ) → ℕ → Reply
-shownReply P cap none floor = noneYet (floor ∷ [])
-shownReply P cap (some best) floor = given (volume P (shownFrom P cap best) ∷ floor ∷ [])
+unfoldable pub shownReply : Pattern → Caps → Option (List ℕ) → ℕ → Reply
+shownReply P caps none floor = noneYet (floor ∷ [])
+shownReply P caps (some best) floor = given (volume P (shownFrom P caps best) ∷ floor ∷ [])
 
 -- what each call replies in numbers: the checks of a list, and an opening
 unfoldable pub listReplies : ℕ → ℕ → ℕ → List ℕ → Reply
 listReplies m n nonzeros list = verdictReply (listVerdict m n nonzeros list)
 
-unfoldable pub openReplies : ℕ → ℕ → ℕ → List ℕ → ℕ → Reply
-openReplies m n nonzeros list cap = verdictReply (openVerdict m n nonzeros list cap)
+unfoldable pub openReplies : ℕ → ℕ → ℕ → List ℕ → Caps → Reply
+openReplies m n nonzeros list caps = verdictReply (openVerdict m n nonzeros list caps)
 
 -- the cap from e
 unfoldable pub capReplies : ℕ → ℕ → Reply
@@ -254,7 +256,7 @@ showReplies s m n nonzeros list parts =
     let r = recordOf s in
     replyAfter
     (showVerdict r m n nonzeros list parts)
-    (shownReply P (r .cap) (r .best) (floor (rulesOf P (r .cap)) r))
+    (shownReply P (r .caps) (r .best) (floor (rulesOf P (r .caps)) r))
 
 -- a showing's answer as one number: 0, or 255 for "none yet", or a refusal as number + 256 × place
 unfoldable pub showCode : ShowAnswer → ℕ

@@ -4,6 +4,7 @@ pub mod Split
 pub mod Marking
 pub mod Bound
 pub mod Walk
+pub mod OneCap
 pub mod Refusal
 pub mod State
 pub mod Calls

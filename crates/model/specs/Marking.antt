@@ -14,6 +14,7 @@ use Rattle.model.specs.declared.Mark.{Mark}
 use Rattle.model.specs.declared.Mark.the-variants.{To, Cut}
 use Rattle.model.specs.declared.Condition.{Condition}
 use Rattle.model.specs.declared.Condition.the-variants.{Marked, Torn, Leaning, Untouched}
+use Rattle.model.specs.declared.Caps.{Caps}
 use Rattle.model.specs.Pattern.{Pattern, lines, rowLine, columnLine, on, lineCount}
 use Rattle.model.specs.Split.{Split, partNumber, isCut}
 
@@ -57,12 +58,12 @@ takes P μ p t =
 unfoldable pub taken : Pattern → Marking → Part → ℕ
 taken P μ p = count (takes P μ p) (P .size)
 
--- valid: no nonzero is taken by both, and D0, D1 are at most the cap
-unfoldable pub valid : Pattern → ℕ → Marking → Bool
-valid P cap μ =
+-- valid: no nonzero is taken by both, and D0 is at most cap 0 and D1 at most cap 1
+unfoldable pub valid : Pattern → Caps → Marking → Bool
+valid P caps μ =
     not (any (λ t. takes P μ Zero t and takes P μ One t) (P .size))
-    and leb (taken P μ Zero) cap
-    and leb (taken P μ One) cap
+    and leb (taken P μ Zero) (caps .cap0)
+    and leb (taken P μ One) (caps .cap1)
 
 -- line l has a nonzero taken by p
 unfoldable pub touched : Pattern → Marking → Part → ℕ → Bool

@@ -1,4 +1,4 @@
--- Document 01, 'Sample patterns', with the caps of document 02's request 2: those marked P as theorems about the definitions, under a
+-- Document 01, 'Sample patterns', with the caps of document 02's requests 2 and 5: those marked P as theorems about the definitions, under a
 -- single conjunction, and beside them the patterns on which the shortcuts give a false minimum. All are closed by computation.
 -- Assumes nothing.
 use mathlib.Core.Bool.{Bool, true, false}
@@ -11,7 +11,8 @@ use Rattle.counting.specs.Tests.{_and_, _or_, pick, bit}
 use Rattle.counting.specs.Sums.{sum, any}
 use Rattle.model.specs.declared.Part.{Part}
 use Rattle.model.specs.declared.Part.the-variants.{Zero, One}
-use Rattle.model.specs.declared.Word.the-variants.{TooBig, OffMatrix, ShortBuffer, Order, Cap, Budget, State}
+use Rattle.model.specs.declared.Caps.{Caps}
+use Rattle.model.specs.declared.Word.the-variants.{TooBig, OffMatrix, ShortBuffer, Order, Cap, NoSplit, Budget, State}
 use Rattle.model.specs.declared.Verdict.the-variants.{Accepted, Refused}
 use Rattle.model.specs.declared.Search.{Search}
 use Rattle.model.specs.declared.Ran.{Ran}
@@ -21,43 +22,56 @@ use Rattle.model.specs.declared.ShowAnswer.{ShowAnswer}
 use Rattle.model.specs.declared.ShowAnswer.the-variants.{NoneYet}
 use Rattle.model.specs.declared.ShowAnswer.the-variants as show-answer
 use Rattle.model.specs.Pattern.{Pattern, rowIn, columnIn, patternOf, lines, rowLine, columnLine, on, lineCount, nonempty, lineTotal}
-use Rattle.model.specs.Split.{Split, holds, isCut, partsOn, volume, load, ceilingHalf, capHundredths, capFromPercent, restFromPercent}
+use Rattle.model.specs.Split.{Split, holds, isCut, partsOn, volume, load, capsOf, bothCaps, unequal, capsOutside, ceilingHalf, capHundredths, capFromPercent, restFromPercent}
 use Rattle.model.specs.Marking.{Marking, precedes, place, markAt, marking, takes, taken, valid, touched, conditionFor, condition}
 use Rattle.model.specs.Bound.{saysLeaning, leans, L1, L2, L3, L4, untaken, atStake, untakenOn, falling, leaningCounts, strikes, struck, conflict, mostChosen, bound}
 use Rattle.model.specs.Walk.{rulesOf, fresh, freshOf, givesPart, oneAllowed, afterZero, advance, cuts, isEmpty, tried, improved, stands, outcome, tryOnce, step, walk, walked, putLater, beginningsLater, openMarkings, leastBound, floor, filled, shownSplit}
 use Rattle.model.specs.Refusal.{refusalCode, given, noneYet, refusal, replyAfter, verdictReply, replyCode, verdictCode, refuse, _then_, eachVerdict}
-use Rattle.model.specs.State.{stack, marksIn, bestIn, recordOf, arrayOf, trailOf, isFound, bestOr, searchOf, areMarks, startsWithZero, beginningsValid, trailFine, bestFine, stateFine}
+use Rattle.model.specs.State.{stack, marksIn, bestIn, recordOf, arrayOf, trailOf, isFound, bestOr, searchOf, areMarks, onesAllowed, beginningsValid, trailFine, bestFine, stateFine}
 use Rattle.model.specs.Calls.{outside, sizesVerdict, rises, entryVerdict, listVerdict, openVerdict, runVerdict, showVerdict, capVerdict, capAfter, capCall, noRecord, openedAfter, openCall, ended, ranRecord, ranAfter, runCall, shownFrom, shown, partBytes, shownParts, shownAfter, partsAfter, showCall, showParts, completeNumber, capReply, runReply, showReply}
 
 -- part p for nonzero t, and another split's parts for the others
 unfoldable pub withPart : Split → ℕ → Part → Split
 withPart σ t p s = pick (eqb s t) p (σ s)
 
--- the least volume among the splits that meet the cap, by going through every split of the first nonzeros; more than all lines if there is none
-unfoldable pub leastAmong : Pattern → ℕ → ℕ → Split → ℕ
-leastAmong P cap zero σ =
-    pick (leb (load P σ Zero) cap and leb (load P σ One) cap) (volume P σ) (lines P + 1)
-leastAmong P cap (suc t) σ =
-    min (leastAmong P cap t (withPart σ t Zero)) (leastAmong P cap t (withPart σ t One))
+-- a split meets the caps
+unfoldable pub meets : Pattern → Caps → Split → Bool
+meets P caps σ = leb (load P σ Zero) (caps .cap0) and leb (load P σ One) (caps .cap1)
 
--- least volume of a pattern under a cap
-unfoldable pub leastVolume : Pattern → ℕ → ℕ
-leastVolume P cap = leastAmong P cap (P .size) (λ t. Zero)
+-- the least volume among the splits that meet the caps, by going through every split of the first nonzeros; more than all lines if there is none
+unfoldable pub leastAmong : Pattern → Caps → ℕ → Split → ℕ
+leastAmong P caps zero σ = pick (meets P caps σ) (volume P σ) (lines P + 1)
+leastAmong P caps (suc t) σ =
+    min (leastAmong P caps t (withPart σ t Zero)) (leastAmong P caps t (withPart σ t One))
+
+-- least volume of a pattern under its caps
+unfoldable pub leastVolume : Pattern → Caps → ℕ
+leastVolume P caps = leastAmong P caps (P .size) (λ t. Zero)
+
+-- the number of splits of the first nonzeros that meet the caps
+unfoldable pub meetingAmong : Pattern → Caps → ℕ → Split → ℕ
+meetingAmong P caps zero σ = bit (meets P caps σ)
+meetingAmong P caps (suc t) σ =
+    meetingAmong P caps t (withPart σ t Zero) + meetingAmong P caps t (withPart σ t One)
+
+-- the number of splits that meet the caps
+unfoldable pub meeting : Pattern → Caps → ℕ
+meeting P caps = meetingAmong P caps (P .size) (λ t. Zero)
 
 -- how the walk stands after so many tries, or fewer if it is complete: complete or not, its tries, and what it shows
-unfoldable pub standsAt : Pattern → ℕ → ℕ → Bool × ℕ × ShowAnswer
-standsAt P cap tries =
-    let r = walked P cap tries in
+unfoldable pub standsAt : Pattern → Caps → ℕ → Bool × ℕ × ShowAnswer
+standsAt P caps tries =
+    let r = walked P caps tries in
     (r .complete, r .tries, shownAfter Accepted r P)
 
 -- the walk stands so after so many tries
-abbrev pub Stands : Pattern → ℕ → ℕ → Bool → ℕ → ShowAnswer → Type 0
-Stands P cap after complete tries shows =
-    _≡_ {A = Bool × ℕ × ShowAnswer} (standsAt P cap after) (complete, tries, shows)
+abbrev pub Stands : Pattern → Caps → ℕ → Bool → ℕ → ShowAnswer → Type 0
+Stands P caps after complete tries shows =
+    _≡_ {A = Bool × ℕ × ShowAnswer} (standsAt P caps after) (complete, tries, shows)
 
 -- the parts that the walk shows after so many tries
-unfoldable pub showsParts : Pattern → ℕ → ℕ → List ℕ
-showsParts P cap tries = shownParts P cap (walked P cap tries .best) (replicate (P .size) 7)
+unfoldable pub showsParts : Pattern → Caps → ℕ → List ℕ
+showsParts P caps tries = shownParts P caps (walked P caps tries .best) (replicate (P .size) 7)
 
 -- one nonzero, 1 by 1
 abbrev pub single : Pattern
@@ -75,8 +89,15 @@ abbrev pub fullTwo : Pattern
 fullTwo = patternOf 2 2 4 (0 ∷ 0 ∷ 0 ∷ 1 ∷ 1 ∷ 0 ∷ 1 ∷ 1 ∷ [])
 
 -- full 1 by 3
+abbrev pub fullRowList : List ℕ
+fullRowList = 0 ∷ 0 ∷ 0 ∷ 1 ∷ 0 ∷ 2 ∷ []
+
 abbrev pub fullRow : Pattern
-fullRow = patternOf 1 3 3 (0 ∷ 0 ∷ 0 ∷ 1 ∷ 0 ∷ 2 ∷ [])
+fullRow = patternOf 1 3 3 fullRowList
+
+-- a row of three and a nonzero of its own row and column
+abbrev pub threeAndOne : Pattern
+threeAndOne = patternOf 2 4 4 (0 ∷ 0 ∷ 0 ∷ 1 ∷ 0 ∷ 2 ∷ 1 ∷ 3 ∷ [])
 
 -- counted from 1: (1,1), (1,2), (2,2)
 abbrev pub corner : Pattern
@@ -108,7 +129,7 @@ cornerMarking l = getD (3 ∷ 1 ∷ 0 ∷ 3 ∷ []) l 3
 
 -- to unfold this is to unfold every definition that a sample computes with
 computing : Type 0
-unfolding _and_ _or_ pick bit sum any rowIn columnIn patternOf lines rowLine columnLine on lineCount nonempty lineTotal holds isCut partsOn volume load ceilingHalf capHundredths capFromPercent restFromPercent precedes place markAt marking takes taken valid touched conditionFor condition saysLeaning leans L1 L2 L3 L4 untaken atStake untakenOn falling leaningCounts strikes struck conflict mostChosen bound rulesOf fresh givesPart oneAllowed afterZero advance cuts isEmpty tried improved stands outcome tryOnce step walk putLater beginningsLater openMarkings leastBound floor filled shownSplit refusalCode given noneYet refusal replyAfter verdictReply replyCode verdictCode refuse _then_ stack marksIn bestIn recordOf arrayOf trailOf isFound bestOr searchOf areMarks startsWithZero beginningsValid trailFine bestFine stateFine outside sizesVerdict rises entryVerdict eachVerdict listVerdict openVerdict runVerdict showVerdict capVerdict capAfter capCall freshOf noRecord openedAfter openCall ended ranRecord ranAfter runCall shownFrom shown partBytes shownParts shownAfter partsAfter showCall showParts completeNumber capReply runReply showReply withPart leastAmong leastVolume walked standsAt showsParts
+unfolding _and_ _or_ pick bit sum any rowIn columnIn patternOf lines rowLine columnLine on lineCount nonempty lineTotal holds isCut partsOn volume load unequal capsOutside ceilingHalf capHundredths capFromPercent restFromPercent precedes place markAt marking takes taken valid touched conditionFor condition saysLeaning leans L1 L2 L3 L4 untaken atStake untakenOn falling leaningCounts strikes struck conflict mostChosen bound rulesOf fresh givesPart oneAllowed afterZero advance cuts isEmpty tried improved stands outcome tryOnce step walk putLater beginningsLater openMarkings leastBound floor filled shownSplit refusalCode given noneYet refusal replyAfter verdictReply replyCode verdictCode refuse _then_ stack marksIn bestIn recordOf arrayOf trailOf isFound bestOr searchOf areMarks onesAllowed beginningsValid trailFine bestFine stateFine outside sizesVerdict rises entryVerdict eachVerdict listVerdict openVerdict runVerdict showVerdict capVerdict capAfter capCall freshOf noRecord openedAfter openCall ended ranRecord ranAfter runCall shownFrom shown partBytes shownParts shownAfter partsAfter showCall showParts completeNumber capReply runReply showReply withPart meets leastAmong leastVolume meetingAmong meeting walked standsAt showsParts
 computing = Unit
 
 -- the samples marked P
@@ -119,24 +140,24 @@ pub record Samples : Type 0 where
   pub cap-1-0 : capFromPercent 1 0 ≡ 1
   pub cap-3-0 : capFromPercent 3 0 ≡ 2
   -- one nonzero, 1 by 1, cap 1: volume 0, 5 tries; cap 0: refusal 12
-  pub single-ends : Stands single 1 100 true 5 (show-answer.Split 0 0)
-  pub single-refused : verdictCode (openVerdict 1 1 1 (0 ∷ 0 ∷ []) 0) ≡ 12
+  pub single-ends : Stands single (bothCaps 1) 100 true 5 (show-answer.Split 0 0)
+  pub single-refused : verdictCode (openVerdict 1 1 1 (0 ∷ 0 ∷ []) (bothCaps 0)) ≡ 12
   -- the 2 by 2 diagonal, cap 1: volume 0, 11 tries; after 3 tries none yet, floor 0
-  pub diagonal-ends : Stands diagonal 1 100 true 11 (show-answer.Split 0 0)
-  pub diagonal-none-yet : Stands diagonal 1 3 false 3 (NoneYet 0)
+  pub diagonal-ends : Stands diagonal (bothCaps 1) 100 true 11 (show-answer.Split 0 0)
+  pub diagonal-none-yet : Stands diagonal (bothCaps 1) 3 false 3 (NoneYet 0)
   -- full 2 by 2, cap 2: fresh floor 1; least volume 2
-  pub full-two-floor : floor (rulesOf fullTwo 2) (freshOf fullTwo 2) ≡ 1
-  pub full-two-least : leastVolume fullTwo 2 ≡ 2
-  pub full-two-ends : Stands fullTwo 2 100 true 13 (show-answer.Split 2 2)
+  pub full-two-floor : floor (rulesOf fullTwo (bothCaps 2)) (freshOf fullTwo (bothCaps 2)) ≡ 1
+  pub full-two-least : leastVolume fullTwo (bothCaps 2) ≡ 2
+  pub full-two-ends : Stands fullTwo (bothCaps 2) 100 true 13 (show-answer.Split 2 2)
   -- full 1 by 3, cap 2: least volume 1; cap 1: refusal 12
-  pub full-row-least : leastVolume fullRow 2 ≡ 1
-  pub full-row-ends : Stands fullRow 2 100 true 10 (show-answer.Split 1 1)
-  pub full-row-refused : verdictCode (openVerdict 1 3 3 (0 ∷ 0 ∷ 0 ∷ 1 ∷ 0 ∷ 2 ∷ []) 1) ≡ 12
+  pub full-row-least : leastVolume fullRow (bothCaps 2) ≡ 1
+  pub full-row-ends : Stands fullRow (bothCaps 2) 100 true 10 (show-answer.Split 1 1)
+  pub full-row-refused : verdictCode (openVerdict 1 3 3 fullRowList (bothCaps 1)) ≡ 12
   -- counted from 1, nonzeros (1,1), (1,2), (2,2), cap 2, column 1 marked 0, row 2 marked 1: L3 0, L4 1
-  pub corner-L3 : L3 corner 2 cornerMarking ≡ 0
+  pub corner-L3 : L3 corner (bothCaps 2) cornerMarking ≡ 0
   pub corner-L4 : L4 corner cornerMarking ≡ 1
   -- 2 by 3 without nonzeros, cap 0: volume 0, 0 tries, complete
-  pub blank-ends : Stands blank 0 100 true 0 (show-answer.Split 0 0)
+  pub blank-ends : Stands blank (bothCaps 0) 100 true 0 (show-answer.Split 0 0)
 
 pub samples : Samples
 unfolding computing
@@ -164,10 +185,10 @@ samples =
 -- splits shown, part by part
 pub record ShownSplits : Type 0 where
   -- taken nonzeros go to their part, and ties in the order of lines go to the lower line
-  pub diagonal-parts : showsParts diagonal 1 11 ≡ 0 ∷ 1 ∷ []
-  pub full-row-parts : showsParts fullRow 2 10 ≡ 0 ∷ 0 ∷ 1 ∷ []
+  pub diagonal-parts : showsParts diagonal (bothCaps 1) 11 ≡ 0 ∷ 1 ∷ []
+  pub full-row-parts : showsParts fullRow (bothCaps 2) 10 ≡ 0 ∷ 0 ∷ 1 ∷ []
   -- nonzeros that are not taken fill part 0 first
-  pub free-parts : partBytes (shownFrom fullRow 2 (2 ∷ 2 ∷ 2 ∷ 2 ∷ [])) 3 (7 ∷ 7 ∷ 7 ∷ 7 ∷ []) ≡ 0 ∷ 0 ∷ 1 ∷ 7 ∷ []
+  pub free-parts : partBytes (shownFrom fullRow (bothCaps 2) (2 ∷ 2 ∷ 2 ∷ 2 ∷ [])) 3 (7 ∷ 7 ∷ 7 ∷ 7 ∷ []) ≡ 0 ∷ 0 ∷ 1 ∷ 7 ∷ []
 
 pub shownSplits : ShownSplits
 unfolding computing
@@ -181,17 +202,17 @@ shownSplits =
 -- the patterns on which a shortcut gives a false minimum: their least volumes, which the complete walk shows
 pub record Witnesses : Type 0 where
   -- cap 7: least volume 1
-  pub counted-twice-least : leastVolume countedTwice 7 ≡ 1
-  pub counted-twice-ends : Stands countedTwice 7 38 true 38 (show-answer.Split 1 1)
+  pub counted-twice-least : leastVolume countedTwice (bothCaps 7) ≡ 1
+  pub counted-twice-ends : Stands countedTwice (bothCaps 7) 38 true 38 (show-answer.Split 1 1)
   -- cap 5: least volume 2
-  pub added-bounds-least : leastVolume addedBounds 5 ≡ 2
-  pub added-bounds-ends : Stands addedBounds 5 43 true 43 (show-answer.Split 2 2)
+  pub added-bounds-least : leastVolume addedBounds (bothCaps 5) ≡ 2
+  pub added-bounds-ends : Stands addedBounds (bothCaps 5) 43 true 43 (show-answer.Split 2 2)
   -- cap 3: least volume 2
-  pub held-against-least : leastVolume heldAgainst 3 ≡ 2
-  pub held-against-ends : Stands heldAgainst 3 31 true 31 (show-answer.Split 2 2)
+  pub held-against-least : leastVolume heldAgainst (bothCaps 3) ≡ 2
+  pub held-against-ends : Stands heldAgainst (bothCaps 3) 31 true 31 (show-answer.Split 2 2)
   -- cap 1: least volume 1
-  pub never-cut-least : leastVolume neverCut 1 ≡ 1
-  pub never-cut-ends : Stands neverCut 1 7 true 7 (show-answer.Split 1 1)
+  pub never-cut-least : leastVolume neverCut (bothCaps 1) ≡ 1
+  pub never-cut-ends : Stands neverCut (bothCaps 1) 7 true 7 (show-answer.Split 1 1)
 
 pub witnesses : Witnesses
 unfolding computing
@@ -207,9 +228,44 @@ witnesses =
       never-cut-ends = refl;
     }
 
+-- unequal caps
+pub record UnequalCaps : Type 0 where
+  -- a row of three and one more: with caps 3 and 1 nothing is cut, with equal caps of the same sum one line is
+  pub unequal-least : leastVolume threeAndOne (capsOf 3 1) ≡ 0
+  pub equal-least : leastVolume threeAndOne (bothCaps 2) ≡ 1
+  pub unequal-ends : Stands threeAndOne (capsOf 3 1) 100 true 18 (show-answer.Split 0 0)
+  pub equal-ends : Stands threeAndOne (bothCaps 2) 100 true 16 (show-answer.Split 1 1)
+  -- caps exchanged: the row, first in order, goes to part 1
+  pub exchanged-ends : Stands threeAndOne (capsOf 1 3) 100 true 18 (show-answer.Split 0 0)
+  pub exchanged-parts : showsParts threeAndOne (capsOf 1 3) 18 ≡ 1 ∷ 1 ∷ 1 ∷ 0 ∷ []
+  -- caps 0 and 3: the only split of a row of three is in part 1, from the first mark on
+  pub only-meeting : meeting fullRow (capsOf 0 3) ≡ 1
+  pub only-ends : Stands fullRow (capsOf 0 3) 100 true 12 (show-answer.Split 0 0)
+  pub only-parts : showsParts fullRow (capsOf 0 3) 12 ≡ 1 ∷ 1 ∷ 1 ∷ []
+  pub only-first : walked fullRow (capsOf 0 3) 1 .trail ≡ 1 ∷ []
+  -- with equal caps the first mark other than cut is 0
+  pub equal-first : walked fullRow (bothCaps 2) 1 .trail ≡ 2 ∷ []
+
+pub unequalCaps : UnequalCaps
+unfolding computing
+unequalCaps =
+    record {
+      unequal-least = refl;
+      equal-least = refl;
+      unequal-ends = refl;
+      equal-ends = refl;
+      exchanged-ends = refl;
+      exchanged-parts = refl;
+      only-meeting = refl;
+      only-ends = refl;
+      only-parts = refl;
+      only-first = refl;
+      equal-first = refl;
+    }
+
 -- the diagonal, opened; run for 3 tries; run for 8 more
 abbrev pub opened : Search
-opened = openCall 2 2 2 diagonalList 1 .search
+opened = openCall 2 2 2 diagonalList (bothCaps 1) .search
 
 abbrev pub begun : Ran
 begun = runCall opened 2 2 2 diagonalList 3
@@ -241,7 +297,10 @@ pub record CallSamples : Type 0 where
   pub off-matrix : listVerdict 2 2 2 (0 ∷ 0 ∷ 0 ∷ 2 ∷ []) ≡ Refused OffMatrix 1
   pub out-of-order : listVerdict 2 2 2 (1 ∷ 1 ∷ 0 ∷ 0 ∷ []) ≡ Refused Order 1
   pub repeated : listVerdict 2 2 2 (1 ∷ 1 ∷ 1 ∷ 1 ∷ []) ≡ Refused Order 1
-  pub cap-refused : openVerdict 2 2 2 diagonalList 2001 ≡ Refused Cap 0
+  pub cap-0-refused : openVerdict 2 2 2 diagonalList (capsOf 2001 0) ≡ Refused Cap 0
+  pub cap-1-refused : openVerdict 2 2 2 diagonalList (capsOf 0 2001) ≡ Refused Cap 0
+  pub caps-taken : openVerdict 2 2 2 diagonalList (capsOf 0 2) ≡ Accepted
+  pub sum-refused : openVerdict 2 2 2 diagonalList (capsOf 1 0) ≡ Refused NoSplit 0
   pub percent-taken : capCall 233 3 ≡ cap-answer.Capped 120 51
   pub percent-even : capCall 156 3 ≡ cap-answer.Capped 80 34
   pub no-rest : capCall 4 0 ≡ cap-answer.Capped 2 0
@@ -279,7 +338,10 @@ callSamples =
       off-matrix = refl;
       out-of-order = refl;
       repeated = refl;
-      cap-refused = refl;
+      cap-0-refused = refl;
+      cap-1-refused = refl;
+      caps-taken = refl;
+      sum-refused = refl;
       percent-taken = refl;
       percent-even = refl;
       no-rest = refl;

@@ -1,12 +1,16 @@
--- Document 01, 'Pattern, split, cap', with the cap and rest of document 02's requests 2 and 4: a split, its load and volume, and meeting a cap.
+-- Document 01, 'Pattern, split, cap', with document 02's requests 2, 4 and 5: a split, its load and volume, the caps of the parts and meeting
+-- them, and the cap and rest from a percentage.
 -- Assumes nothing.
-use mathlib.Core.Bool.{Bool, true, false}
+use mathlib.Core.Bool.{Bool, true, false, not}
 use mathlib.Core.Path.{_≡_}
 use Prim.Native.Nat.{ℕ, _+_, _-_, _*_, _/_, _%_, _≤_, _<_}
-use Rattle.counting.specs.Tests.{_and_, pick, bit}
+use lib.Dec.{eqb, ltb}
+use Rattle.counting.specs.Tests.{_and_, _or_, pick, bit}
 use Rattle.counting.specs.Sums.{sum, count, any}
 use Rattle.model.specs.declared.Part.{Part}
 use Rattle.model.specs.declared.Part.the-variants.{Zero, One}
+use Rattle.model.specs.declared.Caps.{Caps}
+use Rattle.model.specs.Limits.{capLimit}
 use Rattle.model.specs.Pattern.{Pattern, lines, on, nonempty, lineTotal}
 
 -- part 0 or 1, as a number
@@ -54,10 +58,35 @@ lineVolume P σ l = pick (nonempty P l) (partsOn P σ l - 1) 0
 unfoldable pub load : Pattern → Split → Part → ℕ
 load P σ p = count (λ t. samePart p (σ t)) (P .size)
 
--- a split meets the cap
-pub record Meets (P : Pattern) (cap : ℕ) (σ : Split) : Type 0 where
-  pub zero-fits : load P σ Zero ≤ cap
-  pub one-fits : load P σ One ≤ cap
+-- each part's own cap: cap 0 and cap 1
+abbrev pub capOf : Caps → Part → ℕ
+capOf caps Zero = caps .cap0
+capOf caps One = caps .cap1
+
+-- the caps with these numbers
+abbrev pub capsOf : ℕ → ℕ → Caps
+capsOf cap0 cap1 = record { cap0 = cap0; cap1 = cap1 }
+
+-- equal caps
+abbrev pub bothCaps : ℕ → Caps
+bothCaps cap = capsOf cap cap
+
+-- the caps exchanged
+unfoldable pub exchanged : Caps → Caps
+exchanged caps = capsOf (caps .cap1) (caps .cap0)
+
+-- the caps are unequal
+unfoldable pub unequal : Caps → Bool
+unequal caps = not (eqb (caps .cap0) (caps .cap1))
+
+-- either cap is outside its range
+unfoldable pub capsOutside : Caps → Bool
+capsOutside caps = ltb capLimit (caps .cap0) or ltb capLimit (caps .cap1)
+
+-- a split meets the cap, which means both caps
+pub record Meets (P : Pattern) (caps : Caps) (σ : Split) : Type 0 where
+  pub zero-fits : load P σ Zero ≤ caps .cap0
+  pub one-fits : load P σ One ≤ caps .cap1
 
 -- ceiling(x / 2)
 unfoldable pub ceilingHalf : ℕ → ℕ

@@ -10,8 +10,10 @@ use Rattle.counting.specs.Tests.{_and_, _or_}
 use Rattle.trail.specs.declared.Trail.{Trail}
 use Rattle.model.specs.declared.Mark.the-variants.{To, Cut}
 use Rattle.model.specs.declared.Part.the-variants.{One}
+use Rattle.model.specs.declared.Caps.{Caps}
 use Rattle.model.specs.declared.Search.{Search}
-use Rattle.model.specs.Limits.{lineLimit, capLimit, triesLimit}
+use Rattle.model.specs.Limits.{lineLimit, triesLimit}
+use Rattle.model.specs.Split.{capsOf, capsOutside}
 use Rattle.model.specs.Marking.{markNumber}
 use Rattle.model.specs.Walk.{Record, Rules, oneAllowed, cuts, isEmpty}
 
@@ -29,6 +31,10 @@ unfoldable pub bestIn : Bool → Trail → Option (List ℕ)
 bestIn true best = some (marksIn best)
 bestIn false best = none
 
+-- the caps that a search holds
+abbrev pub capsIn : Search → Caps
+capsIn s = capsOf (s .cap0) (s .cap1)
+
 -- the record that a search holds
 unfoldable pub recordOf : Search → Record
 recordOf s =
@@ -36,7 +42,7 @@ recordOf s =
       m = s .m;
       n = s .n;
       nonzeros = s .nonzeros;
-      cap = s .cap;
+      caps = capsIn s;
       tries = s .tries;
       bestCount = s .«best_count»;
       best = bestIn (s .found) (s .best);
@@ -70,7 +76,8 @@ searchOf r =
       m = r .m;
       n = r .n;
       nonzeros = r .nonzeros;
-      cap = r .cap;
+      cap0 = r .caps .cap0;
+      cap1 = r .caps .cap1;
       tries = r .tries;
       «best_count» = r .bestCount;
       found = isFound (r .best);
@@ -84,24 +91,24 @@ unfoldable pub areMarks : List ℕ → Bool
 areMarks [] = true
 areMarks (x ∷ xs) = leb x (markNumber Cut) and areMarks xs
 
--- the first mark other than cut is 0: a mark 1 stands only where it is allowed
-unfoldable pub startsWithZero : List ℕ → Bool
-startsWithZero [] = true
-startsWithZero (x ∷ xs) = (not (eqb x (markNumber (To One))) or oneAllowed xs) and startsWithZero xs
+-- a mark 1 stands only where it is allowed: unless it may come first, the first mark other than cut is 0
+unfoldable pub onesAllowed : Bool → List ℕ → Bool
+onesAllowed first [] = true
+onesAllowed first (x ∷ xs) = (not (eqb x (markNumber (To One))) or oneAllowed first xs) and onesAllowed first xs
 
 -- every proper beginning is valid
 unfoldable pub beginningsValid : Rules → List ℕ → Bool
 beginningsValid R [] = true
 beginningsValid R (x ∷ xs) = R .valid xs and beginningsValid R xs
 
--- the trail has 1 to k legal marks with every proper beginning valid and its first mark other than cut being 0; an empty trail exactly if complete
+-- the trail has 1 to k legal marks with every proper beginning valid, a mark 1 only where it is allowed; an empty trail exactly if complete
 unfoldable pub trailFine : Rules → Bool → List ℕ → Bool
 trailFine R true trail = isEmpty trail
 trailFine R false trail =
     not (isEmpty trail)
     and leb (length trail) (R .k)
     and areMarks trail
-    and startsWithZero trail
+    and onesAllowed (R .oneFirst) trail
     and beginningsValid R trail
 
 -- a best marking is full, valid and has best count cut lines; without one the best count is k + 1 and the search not complete
@@ -116,8 +123,8 @@ stateFine R m n nonzeros r =
     eqb (r .m) m
     and eqb (r .n) n
     and eqb (r .nonzeros) nonzeros
-    and leb nonzeros (2 * r .cap)
-    and leb (r .cap) capLimit
+    and leb nonzeros (r .caps .cap0 + r .caps .cap1)
+    and not (capsOutside (r .caps))
     and leb (r .tries) triesLimit
     and trailFine R (r .complete) (r .trail)
     and bestFine R (r .best) (r .bestCount) (r .complete)

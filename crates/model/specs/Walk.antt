@@ -1,5 +1,6 @@
--- Document 01, 'The walk': the record, fresh, one try, advance, the walk after n tries, open markings, floor and shown split.
--- What the walk asks of a marking is a parameter, `Rules`; the paper's walk is the one with the rules of a pattern and a cap.
+-- Document 01, 'The walk', with the two caps of document 02's request 5: the record, fresh, one try, advance, the walk after n tries, open
+-- markings, floor and shown split. What the walk asks of a marking is a parameter, `Rules`; the paper's walk is the one with the rules of a
+-- pattern and its caps.
 -- Assumes nothing.
 use mathlib.Core.Bool.{Bool, true, false}
 use mathlib.Core.List.{List, [], _∷_, _++_}
@@ -10,8 +11,9 @@ use lib.ListN.{length}
 use Rattle.counting.specs.Tests.{_and_, _or_, pick, bit}
 use Rattle.model.specs.declared.Part.the-variants.{Zero, One}
 use Rattle.model.specs.declared.Mark.the-variants.{To, Cut}
+use Rattle.model.specs.declared.Caps.{Caps}
 use Rattle.model.specs.Pattern.{Pattern, lineTotal}
-use Rattle.model.specs.Split.{Split}
+use Rattle.model.specs.Split.{Split, unequal}
 use Rattle.model.specs.Marking.{Marking, markNumber, marking, takes, taken, valid}
 use Rattle.model.specs.Bound.{bound, untaken}
 
@@ -20,48 +22,50 @@ pub record Record : Type 0 where
   pub m : ℕ
   pub n : ℕ
   pub nonzeros : ℕ
-  pub cap : ℕ
+  pub caps : Caps
   pub tries : ℕ
   pub bestCount : ℕ
   pub best : Option (List ℕ)
   pub complete : Bool
   pub trail : List ℕ
 
--- what the walk asks of a marking: k, validity and the bound
+-- what the walk asks of a marking: k, whether mark 1 is allowed before any 0, validity and the bound
 pub record Rules : Type 0 where
   pub k : ℕ
+  pub oneFirst : Bool
   pub valid : List ℕ → Bool
   pub bound : List ℕ → ℕ
 
--- the rules of a pattern and a cap
-unfoldable pub rulesOf : Pattern → ℕ → Rules
-rulesOf P cap =
+-- the rules of a pattern and its caps: with unequal caps mark 1 is allowed before any 0
+unfoldable pub rulesOf : Pattern → Caps → Rules
+rulesOf P caps =
     record {
       k = lineTotal P;
-      valid = λ trail. valid P cap (marking P trail);
-      bound = λ trail. bound P cap (marking P trail);
+      oneFirst = unequal caps;
+      valid = λ trail. valid P caps (marking P trail);
+      bound = λ trail. bound P caps (marking P trail);
     }
 
 -- fresh: tries 0, best count k + 1, no best marking, trail [0]; if k = 0: complete, best count 0, empty trail and empty best marking
-unfoldable pub fresh : ℕ → ℕ → ℕ → ℕ → ℕ → Record
-fresh m n nonzeros cap zero =
+unfoldable pub fresh : ℕ → ℕ → ℕ → Caps → ℕ → Record
+fresh m n nonzeros caps zero =
     record {
       m = m;
       n = n;
       nonzeros = nonzeros;
-      cap = cap;
+      caps = caps;
       tries = 0;
       bestCount = 0;
       best = some [];
       complete = true;
       trail = [];
     }
-fresh m n nonzeros cap (suc k) =
+fresh m n nonzeros caps (suc k) =
     record {
       m = m;
       n = n;
       nonzeros = nonzeros;
-      cap = cap;
+      caps = caps;
       tries = 0;
       bestCount = suc k + 1;
       best = none;
@@ -69,9 +73,9 @@ fresh m n nonzeros cap (suc k) =
       trail = markNumber (To Zero) ∷ [];
     }
 
--- fresh, for a pattern and a cap: m, n, N and cap as the opening was given them
-unfoldable pub freshOf : Pattern → ℕ → Record
-freshOf P cap = fresh (P .m) (P .n) (P .size) cap (lineTotal P)
+-- fresh, for a pattern and its caps: m, n, N and caps as the opening was given them
+unfoldable pub freshOf : Pattern → Caps → Record
+freshOf P caps = fresh (P .m) (P .n) (P .size) caps (lineTotal P)
 
 -- no marks
 unfoldable pub isEmpty : List ℕ → Bool
@@ -83,20 +87,20 @@ unfoldable pub givesPart : List ℕ → Bool
 givesPart [] = false
 givesPart (x ∷ xs) = eqb x (markNumber (To Zero)) or eqb x (markNumber (To One)) or givesPart xs
 
--- mark 1 is allowed behind these earlier marks: some earlier mark is 0 or 1
-unfoldable pub oneAllowed : List ℕ → Bool
-oneAllowed earlier = givesPart earlier
+-- mark 1 is allowed behind these earlier marks: it may come first, or some earlier mark is 0 or 1
+unfoldable pub oneAllowed : Bool → List ℕ → Bool
+oneAllowed first earlier = first or givesPart earlier
 
 -- the mark that a last mark 0 becomes: 1 if that is allowed, else cut
-unfoldable pub afterZero : List ℕ → ℕ
-afterZero earlier = pick (oneAllowed earlier) (markNumber (To One)) (markNumber Cut)
+unfoldable pub afterZero : Bool → List ℕ → ℕ
+afterZero first earlier = pick (oneAllowed first earlier) (markNumber (To One)) (markNumber Cut)
 
 -- advance: last mark 0 becomes 1 or cut; 1 becomes cut; cut is dropped and the mark before it advances; empty if none is before
-unfoldable pub advance : List ℕ → List ℕ
-advance [] = []
-advance (zero ∷ xs) = afterZero xs ∷ xs
-advance (suc zero ∷ xs) = markNumber Cut ∷ xs
-advance (suc (suc x) ∷ xs) = advance xs
+unfoldable pub advance : Bool → List ℕ → List ℕ
+advance first [] = []
+advance first (zero ∷ xs) = afterZero first xs ∷ xs
+advance first (suc zero ∷ xs) = markNumber Cut ∷ xs
+advance first (suc (suc x) ∷ xs) = advance first xs
 
 -- cut lines of a marking
 unfoldable pub cuts : List ℕ → ℕ
@@ -110,7 +114,7 @@ tried r next =
       m = r .m;
       n = r .n;
       nonzeros = r .nonzeros;
-      cap = r .cap;
+      caps = r .caps;
       tries = r .tries + 1;
       bestCount = r .bestCount;
       best = r .best;
@@ -125,7 +129,7 @@ improved r =
       m = r .m;
       n = r .n;
       nonzeros = r .nonzeros;
-      cap = r .cap;
+      caps = r .caps;
       tries = r .tries;
       bestCount = cuts (r .trail);
       best = some (r .trail);
@@ -138,14 +142,14 @@ unfoldable pub stands : Rules → Record → Bool
 stands R r = R .valid (r .trail) and ltb (R .bound (r .trail)) (r .bestCount)
 
 -- what a try does to a trail that stands or not, shorter than k or of length k
-unfoldable pub outcome : Bool → Bool → Record → Record
-outcome true true r = tried r (markNumber (To Zero) ∷ r .trail)
-outcome true false r = tried (improved r) (advance (r .trail))
-outcome false shorter r = tried r (advance (r .trail))
+unfoldable pub outcome : Rules → Bool → Bool → Record → Record
+outcome R true true r = tried r (markNumber (To Zero) ∷ r .trail)
+outcome R true false r = tried (improved r) (advance (R .oneFirst) (r .trail))
+outcome R false shorter r = tried r (advance (R .oneFirst) (r .trail))
 
 -- one try
 unfoldable pub tryOnce : Rules → Record → Record
-tryOnce R r = outcome (stands R r) (ltb (length (r .trail)) (R .k)) r
+tryOnce R r = outcome R (stands R r) (ltb (length (r .trail)) (R .k)) r
 
 -- one try, or none on a complete search
 unfoldable pub step : Rules → Record → Record
@@ -156,26 +160,26 @@ unfoldable pub walk : Rules → ℕ → Record → Record
 walk R zero r = r
 walk R (suc n) r = step R (walk R n r)
 
--- the walk of a pattern and a cap after n tries from a fresh search
-unfoldable pub walked : Pattern → ℕ → ℕ → Record
-walked P cap n = walk (rulesOf P cap) n (freshOf P cap)
+-- the walk of a pattern and its caps after n tries from a fresh search
+unfoldable pub walked : Pattern → Caps → ℕ → Record
+walked P caps n = walk (rulesOf P caps) n (freshOf P caps)
 
 -- a beginning with its last mark put later by allowed advances (up to cut)
-unfoldable pub putLater : List ℕ → List (List ℕ)
-putLater [] = []
-putLater (zero ∷ xs) =
-    pick (oneAllowed xs) ((markNumber (To One) ∷ xs) ∷ []) [] ++ ((markNumber Cut ∷ xs) ∷ [])
-putLater (suc zero ∷ xs) = (markNumber Cut ∷ xs) ∷ []
-putLater (suc (suc x) ∷ xs) = []
+unfoldable pub putLater : Bool → List ℕ → List (List ℕ)
+putLater first [] = []
+putLater first (zero ∷ xs) =
+    pick (oneAllowed first xs) ((markNumber (To One) ∷ xs) ∷ []) [] ++ ((markNumber Cut ∷ xs) ∷ [])
+putLater first (suc zero ∷ xs) = (markNumber Cut ∷ xs) ∷ []
+putLater first (suc (suc x) ∷ xs) = []
 
 -- each beginning of a trail, the whole included, the empty one not, so put later
-unfoldable pub beginningsLater : List ℕ → List (List ℕ)
-beginningsLater [] = []
-beginningsLater (x ∷ xs) = putLater (x ∷ xs) ++ beginningsLater xs
+unfoldable pub beginningsLater : Bool → List ℕ → List (List ℕ)
+beginningsLater first [] = []
+beginningsLater first (x ∷ xs) = putLater first (x ∷ xs) ++ beginningsLater first xs
 
 -- open markings: none if complete; else the trail, and each beginning of it with its last mark put later
-unfoldable pub openMarkings : Record → List (List ℕ)
-openMarkings r = pick (r .complete) [] (r .trail ∷ beginningsLater (r .trail))
+unfoldable pub openMarkings : Rules → Record → List (List ℕ)
+openMarkings R r = pick (r .complete) [] (r .trail ∷ beginningsLater (R .oneFirst) (r .trail))
 
 -- the least of a count and the bounds of the valid markings of a list
 unfoldable pub leastBound : Rules → ℕ → List (List ℕ) → ℕ
@@ -185,21 +189,21 @@ leastBound R best (τ ∷ τs) =
 
 -- floor: the least of the best count and the bounds of the valid open markings
 unfoldable pub floor : Rules → Record → ℕ
-floor R r = leastBound R (r .bestCount) (openMarkings r)
+floor R r = leastBound R (r .bestCount) (openMarkings R r)
 
--- nonzeros other than the taken ones that stand before nonzero t and go to 0: in number order, while part 0 has fewer than cap
-unfoldable pub filled : Pattern → ℕ → Marking → ℕ → ℕ
-filled P cap μ zero = 0
-filled P cap μ (suc t) =
-    filled P cap μ t + bit (untaken P μ t and ltb (taken P μ Zero + filled P cap μ t) cap)
+-- nonzeros other than the taken ones that stand before nonzero t and go to 0: in number order, while part 0 has fewer than cap 0
+unfoldable pub filled : Pattern → Caps → Marking → ℕ → ℕ
+filled P caps μ zero = 0
+filled P caps μ (suc t) =
+    filled P caps μ t + bit (untaken P μ t and ltb (taken P μ Zero + filled P caps μ t) (caps .cap0))
 
--- shown split: taken nonzeros go to their part; the others, in number order, to 0 while part 0 has fewer than cap, then to 1
-unfoldable pub shownSplit : Pattern → ℕ → Marking → Split
-shownSplit P cap μ t =
+-- shown split: taken nonzeros go to their part; the others, in number order, to 0 while part 0 has fewer than cap 0, then to 1
+unfoldable pub shownSplit : Pattern → Caps → Marking → Split
+shownSplit P caps μ t =
     pick
     (takes P μ Zero t)
     Zero
     (pick
     (takes P μ One t)
     One
-    (pick (ltb (taken P μ Zero + filled P cap μ t) cap) Zero One))
+    (pick (ltb (taken P μ Zero + filled P caps μ t) (caps .cap0)) Zero One))

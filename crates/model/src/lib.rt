@@ -48,12 +48,19 @@ pub enum Verdict {
     Refused(Word, u64),
 }
 
+// The caps of the two parts: cap 0 and cap 1.
+pub struct Caps {
+    pub cap0: u64,
+    pub cap1: u64,
+}
+
 // The running search: the record of the walk. Without `found` there is no best marking.
 pub struct Search {
     pub m: u64,
     pub n: u64,
     pub nonzeros: u64,
-    pub cap: u64,
+    pub cap0: u64,
+    pub cap1: u64,
     pub tries: u64,
     pub best_count: u64,
     pub found: bool,

@@ -16,6 +16,7 @@ use Rattle.model.specs.declared.Word.{Word}
 use Rattle.model.specs.declared.Word.the-variants.{TooBig, OffMatrix, ShortBuffer, Order}
 use Rattle.model.specs.declared.Verdict.{Verdict}
 use Rattle.model.specs.declared.Verdict.the-variants.{Accepted, Refused}
+use Rattle.model.specs.declared.Caps.{Caps}
 use Rattle.model.specs.Limits.{lineLimit, nonzeroLimit}
 use Rattle.model.specs.Refusal.{_then_}
 use Rattle.model.specs.Pattern.{rowIn, columnIn}
@@ -163,9 +164,9 @@ module _ (m n nonzeros : ℕ) (list : List ℕ) where
   list-entries h l =
       then-accepted _ (then-accepted _ h ∙ refuse-no ShortBuffer 0 (le-ltb (length list) (2 * nonzeros) l))
 
--- an opening: the list's checks, then the cap's
+-- an opening: the list's checks, then those of the caps
 pub open-is :
-    (m n nonzeros : ℕ) (list : List ℕ) (cap : ℕ) →
-    openVerdict m n nonzeros list cap ≡ (listVerdict m n nonzeros list then capsVerdict nonzeros cap)
+    (m n nonzeros : ℕ) (list : List ℕ) (caps : Caps) →
+    openVerdict m n nonzeros list caps ≡ (listVerdict m n nonzeros list then capsVerdict nonzeros caps)
 unfolding openVerdict capsVerdict
-open-is m n nonzeros list cap = then-assoc _ _ _
+open-is m n nonzeros list caps = then-assoc _ _ _

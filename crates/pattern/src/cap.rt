@@ -1,7 +1,9 @@
-// The cap from a percentage and the rest that was cut off.
+// The cap from a percentage and the rest that was cut off, and what is asked of the caps of both parts.
 use model::CapAnswer;
+use model::Caps;
 use model::Word;
 ghost use mathlib.Core.Path.{_≡_};
+ghost use Rattle.model.specs.Split.{unequal, capsOutside};
 ghost use Rattle.model.specs.Calls.{capCall, capReply, capReplies};
 
 // The cap from e: 4 for N, then 11, then quotient and remainder of (100 + e) × ceiling(N / 2) by 100.
@@ -20,4 +22,18 @@ pub fn cap_from_percent(nonzeros: u64, percent: u64) -> CapAnswer
         cap: hundredths / 100,
         rest: hundredths % 100,
     }
+}
+
+// Either cap is outside its range.
+pub fn caps_outside(caps: Caps) -> bool
+    ensures { λ r. ⌜ r ≡ capsOutside caps ⌝ }
+{
+    2000 < caps.cap0 || 2000 < caps.cap1
+}
+
+// The caps are unequal.
+pub fn unequal_caps(caps: Caps) -> bool
+    ensures { λ r. ⌜ r ≡ unequal caps ⌝ }
+{
+    caps.cap0 != caps.cap1
 }

@@ -1,8 +1,10 @@
 // The checks of a list of nonzeros and of an opening, in the refusal table's order.
+use crate::cap::caps_outside;
 use crate::reading::column_of;
 use crate::reading::long;
 use crate::reading::long16;
 use crate::reading::row_of;
+use model::Caps;
 use model::Verdict;
 use model::Word;
 ghost use mathlib.Core.Path.{_≡_};
@@ -126,25 +128,25 @@ pub fn list_verdict(m: u64, n: u64, nonzeros: u64, list: &[u8]) -> Verdict
     }
 }
 
-// 11, 12: cap outside its range; N above 2 × cap.
-fn caps_verdict(nonzeros: u64, cap: u64) -> Verdict
-    ensures { λ r. ⌜ r ≡ capsVerdict nonzeros cap ⌝ }
+// 11, 12: either cap outside its range; N above their sum.
+fn caps_verdict(nonzeros: u64, caps: Caps) -> Verdict
+    ensures { λ r. ⌜ r ≡ capsVerdict nonzeros caps ⌝ }
 {
-    if 2000 < cap {
+    if caps_outside(caps) {
         return Verdict::Refused(Word::Cap, 0);
     }
-    if 2 * cap < nonzeros {
+    if caps.cap0 + caps.cap1 < nonzeros {
         return Verdict::Refused(Word::NoSplit, 0);
     }
     Verdict::Accepted
 }
 
 // Opening: the list's checks; then 11, 12.
-pub fn open_verdict(m: u64, n: u64, nonzeros: u64, list: &[u8], cap: u64) -> Verdict
-    ensures verdict { λ r. ⌜ r ≡ openVerdict m n nonzeros (now (list .entry)) cap ⌝ }
-    ensures reply { λ r. ⌜ verdictReply r ≡ openReplies m n nonzeros (now (list .entry)) cap ⌝ }
+pub fn open_verdict(m: u64, n: u64, nonzeros: u64, list: &[u8], caps: Caps) -> Verdict
+    ensures verdict { λ r. ⌜ r ≡ openVerdict m n nonzeros (now (list .entry)) caps ⌝ }
+    ensures reply { λ r. ⌜ verdictReply r ≡ openReplies m n nonzeros (now (list .entry)) caps ⌝ }
 {
     let listed = list_verdict(m, n, nonzeros, list);
-    let caps = caps_verdict(nonzeros, cap);
-    and_then(listed, caps)
+    let limits = caps_verdict(nonzeros, caps);
+    and_then(listed, limits)
 }

@@ -13,7 +13,7 @@ use Rattle.model.specs.declared.Ran.{Ran}
 use Rattle.model.specs.declared.Search.{Search}
 use Rattle.model.specs.Pattern.{patternOf}
 use Rattle.model.specs.Walk.{rulesOf}
-use Rattle.model.specs.State.{recordOf, searchOf, stateFine}
+use Rattle.model.specs.State.{capsIn, recordOf, searchOf, stateFine}
 use Rattle.model.specs.Calls.{listVerdict, runVerdict, ranAfter, runCall}
 use Rattle.state.specs.Holding.{normalOf}
 use Rattle.state.specs.Ready.{Ready, Fits}
@@ -32,7 +32,7 @@ module _ (m n nonzeros : ℕ) (list : List ℕ) (budget : ℕ) (s : Search) wher
   pub run-ready :
       (places starts : List ℕ) (k : ℕ) (a : Ran) →
       listVerdict m n nonzeros list ≡ Accepted → Ready m n nonzeros list places starts k →
-      stateFine (rulesOf (patternOf m n nonzeros list) (s .cap)) m n nonzeros (recordOf s) ≡ true →
+      stateFine (rulesOf (patternOf m n nonzeros list) (capsIn s)) m n nonzeros (recordOf s) ≡ true →
       (Ready m n nonzeros list places starts k → Fits k (recordOf s) → normalOf s ≡ searchOf (recordOf s) →
       a ≡ ranAfter (budgetBy (s .tries) budget) s (patternOf m n nonzeros list) budget) →
       a ≡ runCall s m n nonzeros list budget
@@ -47,7 +47,7 @@ module _ (m n nonzeros : ℕ) (list : List ℕ) (budget : ℕ) (s : Search) wher
   -- the state is refused
   pub run-unfit :
       listVerdict m n nonzeros list ≡ Accepted →
-      stateFine (rulesOf (patternOf m n nonzeros list) (s .cap)) m n nonzeros (recordOf s) ≡ false →
+      stateFine (rulesOf (patternOf m n nonzeros list) (capsIn s)) m n nonzeros (recordOf s) ≡ false →
       ranBy (run-answer.Refused State 0) s ≡ runCall s m n nonzeros list budget
   unfolding runCall
   run-unfit listed unfit =

@@ -7,6 +7,7 @@ use lib.Dec.{ltb}
 use borrow.Author.Tests.{lt-ltb, le-ltb, ltb-false}
 use Rattle.counting.specs.Tests.{_or_}
 use Rattle.counting.proofs.Joined.{or-left, or-right, or-fails, or-fails-right}
+use Rattle.model.specs.declared.Caps.{Caps}
 use Rattle.model.specs.declared.Word.{Word}
 use Rattle.model.specs.declared.Word.the-variants.{Budget}
 use Rattle.model.specs.declared.Verdict.{Verdict}
@@ -18,7 +19,7 @@ use Rattle.model.specs.declared.Search.{Search}
 use Rattle.model.specs.Limits.{budgetLimit, triesLimit}
 use Rattle.model.specs.Pattern.{Pattern, patternOf}
 use Rattle.model.specs.Walk.{Record, rulesOf, walk}
-use Rattle.model.specs.State.{recordOf, searchOf}
+use Rattle.model.specs.State.{capsIn, recordOf, searchOf}
 use Rattle.model.specs.Calls.{ended, ranRecord, ranAfter}
 use Rattle.model.proofs.Theorems.Checks.{refuse-not, refuse-so, refuse-no}
 use Rattle.state.specs.Holding.{normalOf}
@@ -48,38 +49,38 @@ budget-within tries budget h =
     (tries + budget)
     (or-fails-right (ltb budgetLimit budget) (ltb triesLimit (tries + budget)) (refuse-not (ltb budgetLimit budget or ltb triesLimit (tries + budget)) Budget 0 h))
 
--- a cleared search has the same tries and cap
+-- a cleared search has the same tries and caps
 pub normal-tries : (s t : Search) → t ≡ normalOf s → t .tries ≡ s .tries
 unfolding normalOf
 normal-tries s t e = ap (λ (x : Search). x .tries) e
 
-normal-cap : (s t : Search) → t ≡ normalOf s → t .cap ≡ s .cap
+normal-caps : (s t : Search) → t ≡ normalOf s → capsIn t ≡ capsIn s
 unfolding normalOf
-normal-cap s t e = ap (λ (x : Search). x .cap) e
+normal-caps s t e = ap capsIn e
 
 -- a run's answer of these two
 abbrev pub ranBy : RunAnswer → Search → Ran
 ranBy a s = record { answer = a; search = s }
 
-record-cap : (s : Search) → recordOf s .cap ≡ s .cap
+record-caps : (s : Search) → recordOf s .caps ≡ capsIn s
 unfolding recordOf
-record-cap s = refl
+record-caps s = refl
 
 -- an accepted run
 pub run-taken :
     (rows columns size : ℕ) (list places starts : List ℕ) (k budget : ℕ) (s from after : Search) (answer : RunAnswer) (v : Verdict) →
     v ≡ budgetBy (s .tries) budget → v ≡ Accepted → from ≡ normalOf s →
     (Ready rows columns size list places starts k → (r : Record) → from ≡ searchOf r → Fits k r →
-    after ≡ searchOf (walk (rulesOf (patternOf rows columns size list) (from .cap)) budget r)) →
+    after ≡ searchOf (walk (rulesOf (patternOf rows columns size list) (capsIn from)) budget r)) →
     answer ≡ ended (after .complete) →
     Ready rows columns size list places starts k → Fits k (recordOf s) → normalOf s ≡ searchOf (recordOf s) →
     ranBy answer after ≡ ranAfter (budgetBy (s .tries) budget) s (patternOf rows columns size list) budget
 unfolding ranAfter ranRecord
 run-taken rows columns size list places starts k budget s from after answer v e a f walks d ready fits normal =
     let P = patternOf rows columns size list in
-    let w : after ≡ searchOf (walk (rulesOf P (recordOf s .cap)) budget (recordOf s)) = walks ready (recordOf s) (f ∙ normal) fits ∙ ap (λ (c : ℕ). searchOf (walk (rulesOf P c) budget (recordOf s))) (normal-cap s from f ∙ sym (record-cap s)) in
-    ap (λ (x : RunAnswer). ranBy x after) (d ∙ ap ended (ap (λ (x : Search). x .complete) w ∙ search-complete (walk (rulesOf P (recordOf s .cap)) budget (recordOf s))))
-    ∙ ap (ranBy (ended (walk (rulesOf P (recordOf s .cap)) budget (recordOf s) .complete))) w
+    let w : after ≡ searchOf (walk (rulesOf P (recordOf s .caps)) budget (recordOf s)) = walks ready (recordOf s) (f ∙ normal) fits ∙ ap (λ (c : Caps). searchOf (walk (rulesOf P c) budget (recordOf s))) (normal-caps s from f ∙ sym (record-caps s)) in
+    ap (λ (x : RunAnswer). ranBy x after) (d ∙ ap ended (ap (λ (x : Search). x .complete) w ∙ search-complete (walk (rulesOf P (recordOf s .caps)) budget (recordOf s))))
+    ∙ ap (ranBy (ended (walk (rulesOf P (recordOf s .caps)) budget (recordOf s) .complete))) w
     ∙ ap (λ (x : Verdict). ranAfter x s P budget) (sym a ∙ e)
 
 -- a refused one

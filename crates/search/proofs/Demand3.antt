@@ -1,4 +1,4 @@
--- Demand 3, undivided: the claim of specs/Demand.antt holds for every pattern, cap and history.
+-- Demand 3, undivided: the claim of specs/Demand.antt holds for every pattern, pair of caps and history.
 -- Assumes nothing.
 use mathlib.Core.Bool.{Bool, true, false}
 use mathlib.Core.List.{List}
@@ -12,6 +12,7 @@ use Rattle.model.specs.declared.Word.{Word}
 use Rattle.model.specs.declared.Word.the-variants.{Budget}
 use Rattle.model.specs.declared.Verdict.{Verdict}
 use Rattle.model.specs.declared.Verdict.the-variants.{Accepted, Refused}
+use Rattle.model.specs.declared.Caps.{Caps}
 use Rattle.model.specs.declared.Search.{Search}
 use Rattle.model.specs.declared.Opened.{Opened}
 use Rattle.model.specs.declared.Ran.{Ran}
@@ -30,7 +31,7 @@ use Rattle.search.specs.History.{acceptedBudget, Handed, runOf, showOf, 
 use Rattle.search.specs.Demand.{Demand, RunAnswered, ShowAnswered, Throughout, Demand3}
 use Rattle.search.proofs.RunTold.{run-tells}
 use Rattle.search.proofs.ShowTold.{show-tells}
-use Rattle.search.proofs.Points.{walked-back, walked-cap, walked-runs, show-room, demand-at}
+use Rattle.search.proofs.Points.{walked-back, walked-caps, walked-runs, show-room, demand-at}
 use Rattle.search.proofs.Wanting.{accepts-exactly, refuses-exactly}
 
 -- an accepted run's budget counts, and a refused one's does not
@@ -43,50 +44,50 @@ refused-budget : (word : Word) (place budget : ℕ) → acceptedBudget (run-answ
 unfolding acceptedBudget
 refused-budget word place budget = refl
 
-module _ (m n nonzeros : ℕ) (list : List ℕ) (cap : ℕ) (accepted : openVerdict m n nonzeros list cap ≡ Accepted) where
+module _ (m n nonzeros : ℕ) (list : List ℕ) (caps : Caps) (accepted : openVerdict m n nonzeros list caps ≡ Accepted) where
   -- the pattern
   abbrev P : Pattern
   P = patternOf m n nonzeros list
 
   -- the search is the walk's, and its tries are within the limit
   record Kept (s : Search) (total : ℕ) : Type 0 where
-    same : s ≡ searchOf (walked P cap total)
-    limit : walked P cap total .tries ≤ triesLimit
+    same : s ≡ searchOf (walked P caps total)
+    limit : walked P caps total .tries ≤ triesLimit
 
   kept-total : {s : Search} {a b : ℕ} → a ≡ b → Kept s a → Kept s b
   kept-total {s} e k = subst (λ (t : ℕ). Kept s t) e k
 
   -- an accepted run is within the limit on tries
   run-limit :
-      (handed : Handed m n nonzeros list) (total budget : ℕ) → runTable (walked P cap total) handed budget ≡ Accepted →
-      walked P cap total .tries + budget ≤ triesLimit
+      (handed : Handed m n nonzeros list) (total budget : ℕ) → runTable (walked P caps total) handed budget ≡ Accepted →
+      walked P caps total .tries + budget ≤ triesLimit
   unfolding runVerdict
   run-limit handed total budget h =
       ltb-false
       triesLimit
-      (walked P cap total .tries + budget)
+      (walked P caps total .tries + budget)
       (or-fails-right
       (ltb budgetLimit budget)
-      (ltb triesLimit (walked P cap total .tries + budget))
+      (ltb triesLimit (walked P caps total .tries + budget))
       (refuse-not _ Budget 0 (then-second _ _ h)))
 
-  walked-more : (total budget : ℕ) → walked P cap (total + budget) .tries ≤ walked P cap total .tries + budget
+  walked-more : (total budget : ℕ) → walked P caps (total + budget) .tries ≤ walked P caps total .tries + budget
   walked-more total budget =
       omega (
         arith,
-        ap (λ (r : Record). r .tries) (walked-adds P cap total budget),
-        walk-counts (rulesOf P cap) budget (walked P cap total),
+        ap (λ (r : Record). r .tries) (walked-adds P caps total budget),
+        walk-counts (rulesOf P caps) budget (walked P caps total),
       )
 
   -- a run of the walk's search
-  search-runs : (s : Search) (total budget : ℕ) → Kept s total → ranRecord (recordOf s) P budget ≡ walked P cap (total + budget)
+  search-runs : (s : Search) (total budget : ℕ) → Kept s total → ranRecord (recordOf s) P budget ≡ walked P caps (total + budget)
   search-runs s total budget k =
-      ap (λ (r : Record). ranRecord r P budget) (ap recordOf (k .same) ∙ walked-back m n nonzeros list cap accepted total) ∙ walked-runs m n nonzeros list cap accepted total budget
+      ap (λ (r : Record). ranRecord r P budget) (ap recordOf (k .same) ∙ walked-back m n nonzeros list caps accepted total) ∙ walked-runs m n nonzeros list caps accepted total budget
 
   -- the search after a run, by the run's verdict
   run-keeps :
       (handed : Handed m n nonzeros list) (s : Search) (total budget : ℕ) → Kept s total → (v : Verdict) →
-      runTable (walked P cap total) handed budget ≡ v →
+      runTable (walked P caps total) handed budget ≡ v →
       Kept (ranAfter v s P budget .search) (total + acceptedBudget (ranAfter v s P budget .answer) budget)
   unfolding ranAfter
   run-keeps handed s total budget k Accepted e =
@@ -102,14 +103,14 @@ module _ (m n nonzeros : ℕ) (list : List ℕ) (cap : ℕ) (accepted : openVerd
       plus-none : (t : ℕ) → t + 0 ≡ t
       plus-none t = omega arith
 
-  demanded : {s : Search} {total : ℕ} → Kept s total → Demand m n nonzeros list cap s total
-  demanded {s} {total} k = demand-at m n nonzeros list cap accepted s total (k .same) (k .limit)
+  demanded : {s : Search} {total : ℕ} → Kept s total → Demand m n nonzeros list caps s total
+  demanded {s} {total} k = demand-at m n nonzeros list caps accepted s total (k .same) (k .limit)
 
   -- a run of a history: what it leaves, and what it answered
   module _
       (s : Search) (total : ℕ) (k : Kept s total) (handed : Handed m n nonzeros list) (budget : ℕ) (answer : Ran)
       (called : answer ≡ runOf s handed budget) where
-    ran-is : answer ≡ ranAfter (runTable (walked P cap total) handed budget) s P budget
+    ran-is : answer ≡ ranAfter (runTable (walked P caps total) handed budget) s P budget
     ran-is = called ∙ demanded k .run-is handed budget
 
     ran-keeps : Kept (answer .search) (total + acceptedBudget (answer .answer) budget)
@@ -117,66 +118,66 @@ module _ (m n nonzeros : ℕ) (list : List ℕ) (cap : ℕ) (accepted : openVerd
         subst
         (λ (a : Ran). Kept (a .search) (total + acceptedBudget (a .answer) budget))
         (sym ran-is)
-        (run-keeps handed s total budget k (runTable (walked P cap total) handed budget) refl)
+        (run-keeps handed s total budget k (runTable (walked P caps total) handed budget) refl)
 
-    ran-answered : RunAnswered (runTable (walked P cap total) handed budget) (walked P cap (total + budget)) s answer
+    ran-answered : RunAnswered (runTable (walked P caps total) handed budget) (walked P caps (total + budget)) s answer
     ran-answered =
-        run-tells (runTable (walked P cap total) handed budget) s P budget (walked P cap (total + budget)) answer ran-is (search-runs s total budget k)
+        run-tells (runTable (walked P caps total) handed budget) s P budget (walked P caps (total + budget)) answer ran-is (search-runs s total budget k)
 
   -- a showing of a history: what it answered
   module _
       (s : Search) (total : ℕ) (k : Kept s total) (handed : Handed m n nonzeros list) (parts after : List ℕ) (answer : ShowAnswer)
       (called : answer ≡ showOf s handed parts)
       (written : after ≡ partsOf s handed parts) where
-    showed-answered : ShowAnswered P cap (walked P cap total) (showTable (walked P cap total) handed parts) parts answer after
+    showed-answered : ShowAnswered P caps (walked P caps total) (showTable (walked P caps total) handed parts) parts answer after
     showed-answered =
         let d = demanded k in
         show-tells
         P
-        cap
-        (walked P cap total)
+        caps
+        (walked P caps total)
         (d .shown-meets)
         (d .floor-below)
         (d .complete-closed)
         parts
-        (walked-cap m n nonzeros list cap accepted total)
-        (showTable (walked P cap total) handed parts)
-        (show-room m n nonzeros list cap accepted handed total parts)
+        (walked-caps m n nonzeros list caps accepted total)
+        (showTable (walked P caps total) handed parts)
+        (show-room m n nonzeros list caps accepted handed total parts)
         answer
         after
         (called ∙ d .show-is handed parts)
         (written ∙ d .parts-are handed parts)
 
   -- the search of an accepted opening
-  opened-is : openedAfter Accepted P cap ≡ searchOf (walked P cap 0)
+  opened-is : openedAfter Accepted P caps ≡ searchOf (walked P caps 0)
   unfolding openedAfter walked walk
   opened-is = refl
 
   -- it has made no tries
-  pub opened-none : walked P cap 0 .tries ≡ 0
+  pub opened-none : walked P caps 0 .tries ≡ 0
   unfolding walked walk freshOf
-  opened-none = fresh-tries (P .m) (P .n) (P .size) cap (lineTotal P)
+  opened-none = fresh-tries (P .m) (P .n) (P .size) caps (lineTotal P)
 
-  opened-keeps : (answer : Opened) → answer ≡ openCall m n nonzeros list cap → Kept (answer .search) 0
+  opened-keeps : (answer : Opened) → answer ≡ openCall m n nonzeros list caps → Kept (answer .search) 0
   unfolding openCall
   opened-keeps answer called =
       record {
         same = ap (λ (a : Opened). a .search) called
-            ∙ ap (λ (v : Verdict). openedAfter v P cap) accepted
+            ∙ ap (λ (v : Verdict). openedAfter v P caps) accepted
             ∙ opened-is;
         limit = omega (arith, opened-none);
       }
 
   -- the search at every point of a history
   history-keeps :
-      {s : Search} {total : ℕ} → History m n nonzeros list cap s total → Kept s total
+      {s : Search} {total : ℕ} → History m n nonzeros list caps s total → Kept s total
   history-keeps (opened answer called fine) = opened-keeps answer called
   history-keeps (ran {s} {total} h handed budget answer called) =
       ran-keeps s total (history-keeps h) handed budget answer called
   history-keeps (showed h handed parts after answer called written) = history-keeps h
 
   -- demand 3 throughout a history
-  throughout-accepted : {s : Search} {total : ℕ} (h : History m n nonzeros list cap s total) → Throughout h
+  throughout-accepted : {s : Search} {total : ℕ} (h : History m n nonzeros list caps s total) → Throughout h
   throughout-accepted (opened answer called fine) = demanded (opened-keeps answer called)
   throughout-accepted (ran {s} {total} h handed budget answer called) =
       let k = history-keeps h in (
@@ -193,21 +194,21 @@ module _ (m n nonzeros : ℕ) (list : List ℕ) (cap : ℕ) (accepted : openVerd
 
 -- a history begins with an accepted opening
 history-accepted :
-    {m n nonzeros : ℕ} {list : List ℕ} {cap : ℕ} {s : Search} {total : ℕ} →
-    History m n nonzeros list cap s total → openVerdict m n nonzeros list cap ≡ Accepted
+    {m n nonzeros : ℕ} {list : List ℕ} {caps : Caps} {s : Search} {total : ℕ} →
+    History m n nonzeros list caps s total → openVerdict m n nonzeros list caps ≡ Accepted
 unfolding openCall
 history-accepted (opened answer called fine) = sym (ap (λ (a : Opened). a .verdict) called) ∙ fine
 history-accepted (ran h handed budget answer called) = history-accepted h
 history-accepted (showed h handed parts after answer called written) = history-accepted h
 
 -- demand 3
-pub demand-3 : (m n nonzeros : ℕ) (list : List ℕ) (cap : ℕ) → Demand3 m n nonzeros list cap
+pub demand-3 : (m n nonzeros : ℕ) (list : List ℕ) (caps : Caps) → Demand3 m n nonzeros list caps
 unfolding openCall
-demand-3 m n nonzeros list cap =
+demand-3 m n nonzeros list caps =
     record {
-      throughout = λ h. throughout-accepted m n nonzeros list cap (history-accepted h) h;
+      throughout = λ h. throughout-accepted m n nonzeros list caps (history-accepted h) h;
       opens = refl;
-      opens-reply = open-replies m n nonzeros list cap;
-      accepts = accepts-exactly m n nonzeros list cap;
-      refuses = refuses-exactly m n nonzeros list cap;
+      opens-reply = open-replies m n nonzeros list caps;
+      accepts = accepts-exactly m n nonzeros list caps;
+      refuses = refuses-exactly m n nonzeros list caps;
     }

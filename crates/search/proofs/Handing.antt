@@ -9,6 +9,7 @@ use Rattle.counting.proofs.Joined.{and-left, and-right}
 use Rattle.model.specs.declared.Word.the-variants.{State}
 use Rattle.model.specs.declared.Verdict.{Verdict}
 use Rattle.model.specs.declared.Verdict.the-variants.{Accepted, Refused}
+use Rattle.model.specs.declared.Caps.{Caps}
 use Rattle.model.specs.declared.Search.{Search}
 use Rattle.model.specs.Refusal.{refuse, _then_}
 use Rattle.model.specs.Pattern.{Pattern, patternOf}
@@ -31,13 +32,13 @@ state-sizes R m n nonzeros r h =
     let two = and-left _ _ three in
     (eqb-true (r .m) m (and-left _ _ two), eqb-true (r .n) n (and-right _ _ two), eqb-true (r .nonzeros) nonzeros (and-right _ _ three))
 
-module _ {m n nonzeros : ℕ} {list : List ℕ} (handed : Handed m n nonzeros list) (r : Record) (cap : ℕ) (walks : For m n nonzeros cap r) where
+module _ {m n nonzeros : ℕ} {list : List ℕ} (handed : Handed m n nonzeros list) (r : Record) (caps : Caps) (walks : For m n nonzeros caps r) where
   -- the checks of the list and of the state
   abbrev front : Verdict
   front =
       listVerdict (handed .rows) (handed .columns) (handed .size) (handed .slice)
       then refuse
-      (not (stateFine (rulesOf (patternOf (handed .rows) (handed .columns) (handed .size) (handed .slice)) (r .cap)) (handed .rows) (handed .columns) (handed .size) r))
+      (not (stateFine (rulesOf (patternOf (handed .rows) (handed .columns) (handed .size) (handed .slice)) (r .caps)) (handed .rows) (handed .columns) (handed .size) r))
       State
       0
 

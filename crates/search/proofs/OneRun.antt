@@ -13,7 +13,7 @@ use Rattle.model.specs.declared.Part.the-variants.{Zero, One}
 use Rattle.model.specs.declared.Word.the-variants.{BadPart, ShortBuffer, Budget, State}
 use Rattle.model.specs.declared.Verdict.{Verdict}
 use Rattle.model.specs.declared.Verdict.the-variants.{Accepted, Refused}
-use Rattle.model.specs.declared.Search.{Search}
+use Rattle.model.specs.declared.Caps.{Caps}
 use Rattle.model.specs.declared.RunAnswer.{RunAnswer}
 use Rattle.model.specs.declared.RunAnswer.the-variants as run-answer
 use Rattle.model.specs.declared.Ran.{Ran}
@@ -24,7 +24,7 @@ use Rattle.model.specs.Refusal.{refuse, _then_}
 use Rattle.model.specs.Pattern.{Pattern, patternOf}
 use Rattle.model.specs.Split.{partNumber}
 use Rattle.model.specs.Walk.{Record, rulesOf, walked}
-use Rattle.model.specs.State.{recordOf, stateFine}
+use Rattle.model.specs.State.{capsIn, recordOf, stateFine}
 use Rattle.model.specs.Calls.{listVerdict, openVerdict, runVerdict, showVerdict, openCall, ended, ranRecord, ranAfter, runCall, shownFrom, showCall, showParts}
 use Rattle.model.proofs.Theorems.Checks.{refuse-no, then-accepted, each-fine}
 use Rattle.model.proofs.Theorems.Accepted.{open-accepted}
@@ -33,9 +33,9 @@ use Rattle.pattern.specs.Measures.{partVerdict, partsVerdict}
 use Rattle.search.specs.Running.{budgetBy}
 use Rattle.search.specs.History.{acceptedBudget, Handed, handedSlice, History, opened, ran, showed}
 use Rattle.search.specs.Demand.{Demand, ShowAnswered}
-use Rattle.search.proofs.Runs.{search-cap}
+use Rattle.search.proofs.Runs.{search-caps}
 use Rattle.search.proofs.Budgets.{budget-over, budget-taken}
-use Rattle.search.proofs.Points.{walked-cap}
+use Rattle.search.proofs.Points.{walked-caps}
 use Rattle.search.proofs.Demand3.{ended-budget, opened-none, demand-3}
 
 -- a part's byte is 0 or 1
@@ -43,40 +43,40 @@ part-byte : (byte : ℕ) (p : Part) → byte ≡ partNumber p → byte ≤ 1
 part-byte byte Zero e = omega arith
 part-byte byte One e = omega arith
 
-module _ (m n nonzeros : ℕ) (list : List ℕ) (cap budget : ℕ) (opens : openVerdict m n nonzeros list cap ≡ Accepted) where
+module _ (m n nonzeros : ℕ) (list : List ℕ) (caps : Caps) (budget : ℕ) (opens : openVerdict m n nonzeros list caps ≡ Accepted) where
   -- the pattern, and the walk's record after some tries
   abbrev P : Pattern
   P = patternOf m n nonzeros list
 
   abbrev after : ℕ → Record
-  after tries = walked P cap tries
+  after tries = walked P caps tries
 
   listed : listVerdict m n nonzeros list ≡ Accepted
-  listed = open-accepted m n nonzeros list cap opens .listed
+  listed = open-accepted m n nonzeros list caps opens .listed
 
   -- a state of the walk passes the checks of its list and of its state
   state-passes :
-      (tries : ℕ) → stateFine (rulesOf P cap) m n nonzeros (after tries) ≡ true →
+      (tries : ℕ) → stateFine (rulesOf P caps) m n nonzeros (after tries) ≡ true →
       listVerdict m n nonzeros list
-      then refuse (not (stateFine (rulesOf P (after tries .cap)) m n nonzeros (after tries))) State 0
+      then refuse (not (stateFine (rulesOf P (after tries .caps)) m n nonzeros (after tries))) State 0
       ≡ Accepted
   state-passes tries fine =
       then-accepted _ listed
       ∙ refuse-no
       State
       0
-      (ap not (ap (λ (c : ℕ). stateFine (rulesOf P c) m n nonzeros (after tries)) (walked-cap m n nonzeros list cap opens tries) ∙ fine))
+      (ap not (ap (λ (c : Caps). stateFine (rulesOf P c) m n nonzeros (after tries)) (walked-caps m n nonzeros list caps opens tries) ∙ fine))
 
   -- the opening
-  opens-call : openCall m n nonzeros list cap .verdict ≡ Accepted
+  opens-call : openCall m n nonzeros list caps .verdict ≡ Accepted
   unfolding openCall
   opens-call = opens
 
-  abbrev start : History m n nonzeros list cap (openCall m n nonzeros list cap .search) 0
-  start = opened (openCall m n nonzeros list cap) refl opens-call
+  abbrev start : History m n nonzeros list caps (openCall m n nonzeros list caps .search) 0
+  start = opened (openCall m n nonzeros list caps) refl opens-call
 
-  at-start : Demand m n nonzeros list cap (openCall m n nonzeros list cap .search) 0
-  at-start = demand-3 m n nonzeros list cap .throughout start
+  at-start : Demand m n nonzeros list caps (openCall m n nonzeros list caps .search) 0
+  at-start = demand-3 m n nonzeros list caps .throughout start
 
   -- what each call is handed
   abbrev handed : Handed m n nonzeros list
@@ -88,20 +88,20 @@ module _ (m n nonzeros : ℕ) (list : List ℕ) (cap budget : ℕ) (opens : open
   runs = then-accepted _ (state-passes 0 (at-start .fine))
 
   abbrev pub Run : Ran
-  Run = runCall (openCall m n nonzeros list cap .search) m n nonzeros list budget
+  Run = runCall (openCall m n nonzeros list caps .search) m n nonzeros list budget
 
-  run-is : (v : Verdict) → v ≡ budgetBy (after 0 .tries) budget → Run ≡ ranAfter v (openCall m n nonzeros list cap .search) P budget
+  run-is : (v : Verdict) → v ≡ budgetBy (after 0 .tries) budget → Run ≡ ranAfter v (openCall m n nonzeros list caps .search) P budget
   run-is v e =
       at-start .run-is handed budget
-      ∙ ap (λ (v : Verdict). ranAfter v (openCall m n nonzeros list cap .search) P budget) (runs ∙ sym e)
+      ∙ ap (λ (v : Verdict). ranAfter v (openCall m n nonzeros list caps .search) P budget) (runs ∙ sym e)
 
   -- whatever the run answers, demand 3 holds after it
-  at-answer : Demand m n nonzeros list cap (Run .search) (0 + acceptedBudget (Run .answer) budget)
-  at-answer = demand-3 m n nonzeros list cap .throughout (ran start handed budget Run refl) .2
+  at-answer : Demand m n nonzeros list caps (Run .search) (0 + acceptedBudget (Run .answer) budget)
+  at-answer = demand-3 m n nonzeros list caps .throughout (ran start handed budget Run refl) .2
 
-  -- and the search has the opening's cap
-  pub run-cap : Run .search .cap ≡ cap
-  run-cap = ap (λ (s : Search). s .cap) (at-answer .whole) ∙ search-cap _ ∙ walked-cap m n nonzeros list cap opens _
+  -- and the search has the opening's caps
+  pub run-caps : capsIn (Run .search) ≡ caps
+  run-caps = ap capsIn (at-answer .whole) ∙ search-caps _ ∙ walked-caps m n nonzeros list caps opens _
 
   -- a budget over its range is refused 13
   pub run-refused : budgetLimit < budget → Run .answer ≡ run-answer.Refused Budget 0
@@ -110,16 +110,16 @@ module _ (m n nonzeros : ℕ) (list : List ℕ) (cap budget : ℕ) (opens : open
 
   -- with one in its range the run is accepted
   module _ (within : budget ≤ budgetLimit) where
-    pub run-ended : Run .answer ≡ ended (ranRecord (recordOf (openCall m n nonzeros list cap .search)) P budget .complete)
+    pub run-ended : Run .answer ≡ ended (ranRecord (recordOf (openCall m n nonzeros list caps .search)) P budget .complete)
     unfolding ranAfter
-    run-ended = ap (λ (a : Ran). a .answer) (run-is Accepted (budget-taken _ budget within (omega (arith, opened-none m n nonzeros list cap opens))))
+    run-ended = ap (λ (a : Ran). a .answer) (run-is Accepted (budget-taken _ budget within (omega (arith, opened-none m n nonzeros list caps opens))))
 
     counts : acceptedBudget (Run .answer) budget ≡ budget
     counts = ap (λ (a : RunAnswer). acceptedBudget a budget) run-ended ∙ ended-budget _ budget
 
-    pub at-end : Demand m n nonzeros list cap (Run .search) budget
+    pub at-end : Demand m n nonzeros list caps (Run .search) budget
     at-end =
-        subst (λ (total : ℕ). Demand m n nonzeros list cap (Run .search) total) (omega (arith, counts)) at-answer
+        subst (λ (total : ℕ). Demand m n nonzeros list caps (Run .search) total) (omega (arith, counts)) at-answer
 
     -- the showing
     module _ (parts : List ℕ) where
@@ -130,12 +130,12 @@ module _ (m n nonzeros : ℕ) (list : List ℕ) (cap budget : ℕ) (opens : open
       Left = showParts (Run .search) m n nonzeros list parts
 
       pub told :
-          ShowAnswered P cap (after budget) (showVerdict (after budget) m n nonzeros list parts) parts Shown Left
+          ShowAnswered P caps (after budget) (showVerdict (after budget) m n nonzeros list parts) parts Shown Left
       told =
           subst
-          (λ (total : ℕ). ShowAnswered P cap (after total) (showVerdict (after total) m n nonzeros list parts) parts Shown Left)
+          (λ (total : ℕ). ShowAnswered P caps (after total) (showVerdict (after total) m n nonzeros list parts) parts Shown Left)
           (omega (arith, counts))
-          (demand-3 m n nonzeros list cap .throughout (showed (ran start handed budget Run refl) handed parts Left Shown refl refl) .1)
+          (demand-3 m n nonzeros list caps .throughout (showed (ran start handed budget Run refl) handed parts Left Shown refl refl) .1)
 
       -- with room for the parts it is accepted
       pub shows : nonzeros ≤ length parts → showVerdict (after budget) m n nonzeros list parts ≡ Accepted
@@ -148,7 +148,7 @@ module _ (m n nonzeros : ℕ) (list : List ℕ) (cap budget : ℕ) (opens : open
       unfolding partsVerdict partVerdict
       parts-fine room volume low e =
           let shown = told .split volume low e in
-          let part = shownFrom P cap (shown .walk-shows .0) in
+          let part = shownFrom P caps (shown .walk-shows .0) in
           then-accepted _ (refuse-no ShortBuffer 0 (le-ltb (length Left) nonzeros (omega (arith, shown .same-length))))
           ∙ each-fine
           (partVerdict Left)

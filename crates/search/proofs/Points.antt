@@ -9,6 +9,7 @@ use lib.ListN.{length}
 use borrow.Author.Tests.{ltb-false}
 use Rattle.model.specs.declared.Word.the-variants.{ShortBuffer}
 use Rattle.model.specs.declared.Verdict.the-variants.{Accepted}
+use Rattle.model.specs.declared.Caps.{Caps}
 use Rattle.model.specs.declared.Search.{Search}
 use Rattle.model.specs.Limits.{lineLimit, triesLimit}
 use Rattle.model.specs.Pattern.{Pattern, Inside, patternOf, lineTotal}
@@ -31,13 +32,13 @@ use Rattle.search.specs.History.{Handed, runTable, showTable}
 use Rattle.search.specs.Demand.{Demand}
 use Rattle.search.proofs.Handing.{handed-alike, ran-same, shown-same, parts-same}
 
-module _ (m n nonzeros : ℕ) (list : List ℕ) (cap : ℕ) (accepted : openVerdict m n nonzeros list cap ≡ Accepted) where
+module _ (m n nonzeros : ℕ) (list : List ℕ) (caps : Caps) (accepted : openVerdict m n nonzeros list caps ≡ Accepted) where
   -- the pattern
   abbrev P : Pattern
   P = patternOf m n nonzeros list
 
-  open-fine : OpenFine m n nonzeros list cap
-  open-fine = open-accepted m n nonzeros list cap accepted
+  open-fine : OpenFine m n nonzeros list caps
+  open-fine = open-accepted m n nonzeros list caps accepted
 
   inside : Inside P
   inside = accepted-inside m n nonzeros list (open-fine .listed)
@@ -46,69 +47,69 @@ module _ (m n nonzeros : ℕ) (list : List ℕ) (cap : ℕ) (accepted : openVerd
   list-fine = list-accepted m n nonzeros list (open-fine .listed)
 
   -- the markings of the walk fit their arrays
-  walked-orderly : (total : ℕ) → Orderly (rulesOf P cap) (walked P cap total)
+  walked-orderly : (total : ℕ) → Orderly (rulesOf P caps) (walked P caps total)
   unfolding walked freshOf rulesOf
   walked-orderly total =
-      walk-orderly (rulesOf P cap) (P .m) (P .n) (P .size) cap total (empty-valid (rules-sound P cap inside))
+      walk-orderly (rulesOf P caps) (P .m) (P .n) (P .size) caps total (empty-valid (rules-sound P caps inside))
 
   few : lineTotal P ≤ 2 * lineLimit
   unfolding patternOf
   few = few-lines P (list-fine .rows-to) (list-fine .columns-to)
 
-  k-few : rulesOf P cap .k ≤ 2 * lineLimit
+  k-few : rulesOf P caps .k ≤ 2 * lineLimit
   unfolding rulesOf
   k-few = few
 
   best-short :
-      (total : ℕ) (τ : List ℕ) → walked P cap total .best ≡ some τ → length τ ≤ 2 * lineLimit
+      (total : ℕ) (τ : List ℕ) → walked P caps total .best ≡ some τ → length τ ≤ 2 * lineLimit
   unfolding walked freshOf rulesOf
   best-short total τ e =
-      let w = best-is (rulesOf P cap) (P .m) (P .n) (P .size) cap total τ (empty-valid (rules-sound P cap inside)) e in
+      let w = best-is (rulesOf P caps) (P .m) (P .n) (P .size) caps total τ (empty-valid (rules-sound P caps inside)) e in
       omega (arith, w .0 .long, few)
 
   -- the record read off the walk's search is the walk's
-  pub walked-back : (total : ℕ) → recordOf (searchOf (walked P cap total)) ≡ walked P cap total
+  pub walked-back : (total : ℕ) → recordOf (searchOf (walked P caps total)) ≡ walked P caps total
   walked-back total =
       record-back
-      (walked P cap total)
+      (walked P caps total)
       (omega (arith, walked-orderly total .legal .within, k-few))
       (best-short total)
 
-  -- its cap is the opening's
-  pub walked-cap : (total : ℕ) → walked P cap total .cap ≡ cap
+  -- its caps are the opening's
+  pub walked-caps : (total : ℕ) → walked P caps total .caps ≡ caps
   unfolding walked freshOf rulesOf
-  walked-cap total = walk-for (rulesOf P cap) (P .m) (P .n) (P .size) cap total .limit
+  walked-caps total = walk-for (rulesOf P caps) (P .m) (P .n) (P .size) caps total .limits
 
   -- a run of the walk's record
-  pub walked-runs : (total budget : ℕ) → ranRecord (walked P cap total) P budget ≡ walked P cap (total + budget)
+  pub walked-runs : (total budget : ℕ) → ranRecord (walked P caps total) P budget ≡ walked P caps (total + budget)
   unfolding ranRecord
   walked-runs total budget =
-      ap (λ (c : ℕ). walk (rulesOf P c) budget (walked P cap total)) (walked-cap total)
-      ∙ sym (walked-adds P cap total budget)
+      ap (λ (c : Caps). walk (rulesOf P c) budget (walked P caps total)) (walked-caps total)
+      ∙ sym (walked-adds P caps total budget)
 
   -- the record is for this pattern
-  walked-for : (total : ℕ) → For m n nonzeros cap (walked P cap total)
+  walked-for : (total : ℕ) → For m n nonzeros caps (walked P caps total)
   unfolding walked freshOf rulesOf patternOf
-  walked-for total = walk-for (rulesOf P cap) (P .m) (P .n) (P .size) cap total
+  walked-for total = walk-for (rulesOf P caps) (P .m) (P .n) (P .size) caps total
 
   -- what a call is handed is the pattern, where nothing is refused
   abbrev patternFor : Handed m n nonzeros list → Pattern
   patternFor handed = patternOf (handed .rows) (handed .columns) (handed .size) (handed .slice)
 
   run-alike :
-      (handed : Handed m n nonzeros list) (total budget : ℕ) → runTable (walked P cap total) handed budget ≡ Accepted → Alike (patternFor handed) P
+      (handed : Handed m n nonzeros list) (total budget : ℕ) → runTable (walked P caps total) handed budget ≡ Accepted → Alike (patternFor handed) P
   unfolding runVerdict
-  run-alike handed total budget h = handed-alike handed (walked P cap total) cap (walked-for total) (then-first _ _ h)
+  run-alike handed total budget h = handed-alike handed (walked P caps total) caps (walked-for total) (then-first _ _ h)
 
   show-alike :
-      (handed : Handed m n nonzeros list) (total : ℕ) (parts : List ℕ) → showTable (walked P cap total) handed parts ≡ Accepted →
+      (handed : Handed m n nonzeros list) (total : ℕ) (parts : List ℕ) → showTable (walked P caps total) handed parts ≡ Accepted →
       Alike (patternFor handed) P
   unfolding showVerdict
-  show-alike handed total parts h = handed-alike handed (walked P cap total) cap (walked-for total) (then-first _ _ h)
+  show-alike handed total parts h = handed-alike handed (walked P caps total) caps (walked-for total) (then-first _ _ h)
 
   -- an accepted showing has room for its parts
   pub show-room :
-      (handed : Handed m n nonzeros list) (total : ℕ) (parts : List ℕ) → showTable (walked P cap total) handed parts ≡ Accepted → P .size ≤ length parts
+      (handed : Handed m n nonzeros list) (total : ℕ) (parts : List ℕ) → showTable (walked P caps total) handed parts ≡ Accepted → P .size ≤ length parts
   unfolding showVerdict patternOf
   show-room handed total parts h =
       let room = ltb-false (length parts) (handed .size) (refuse-not _ ShortBuffer 0 (then-second _ _ h)) in
@@ -116,8 +117,8 @@ module _ (m n nonzeros : ℕ) (list : List ℕ) (cap : ℕ) (accepted : openVerd
 
   -- all of demand 3 at a point, where the search is the walk's and the tries are within the limit
   pub demand-at :
-      (s : Search) (total : ℕ) → s ≡ searchOf (walked P cap total) → walked P cap total .tries ≤ triesLimit →
-      Demand m n nonzeros list cap s total
+      (s : Search) (total : ℕ) → s ≡ searchOf (walked P caps total) → walked P caps total .tries ≤ triesLimit →
+      Demand m n nonzeros list caps s total
   unfolding runCall showCall showParts patternOf mostTries
   demand-at s total e limit =
       record {
@@ -128,34 +129,34 @@ module _ (m n nonzeros : ℕ) (list : List ℕ) (cap : ℕ) (accepted : openVerd
             (λ (r : Record).
             ranAfter (runTable r handed budget) s (patternFor handed) budget)
             back
-            ∙ ran-same (patternFor handed) P (runTable (walked P cap total) handed budget) s budget (run-alike handed total budget);
+            ∙ ran-same (patternFor handed) P (runTable (walked P caps total) handed budget) s budget (run-alike handed total budget);
         show-is = λ handed parts.
             ap
             (λ (r : Record).
             shownAfter (showTable r handed parts) r (patternFor handed))
             back
-            ∙ shown-same (patternFor handed) P (showTable (walked P cap total) handed parts) (walked P cap total) (show-alike handed total parts);
+            ∙ shown-same (patternFor handed) P (showTable (walked P caps total) handed parts) (walked P caps total) (show-alike handed total parts);
         parts-are = λ handed parts.
             ap
             (λ (r : Record).
             partsAfter (showTable r handed parts) r (patternFor handed) parts)
             back
-            ∙ parts-same (patternFor handed) P (showTable (walked P cap total) handed parts) (walked P cap total) parts (show-alike handed total parts);
-        shown-meets = λ best b. shown-within P cap total best inside enough b .0;
-        shown-volume = λ best b. shown-within P cap total best inside enough b .1;
-        floor-below = λ σ meets. floor-below-volume P cap total σ inside meets;
-        complete-found = λ done. let w = complete-least P cap total inside enough done in (w .marks, w .best);
+            ∙ parts-same (patternFor handed) P (showTable (walked P caps total) handed parts) (walked P caps total) parts (show-alike handed total parts);
+        shown-meets = λ best b. shown-within P caps total best inside enough b .0;
+        shown-volume = λ best b. shown-within P caps total best inside enough b .1;
+        floor-below = λ σ meets. floor-below-volume P caps total σ inside meets;
+        complete-found = λ done. let w = complete-least P caps total inside enough done in (w .marks, w .best);
         complete-closed = λ done best b.
-            let w = complete-least P cap total inside enough done in
+            let w = complete-least P caps total inside enough done in
             let same : w .marks ≡ best = cc (w .best) in
-            w .closed ∙ ap (λ (τ : List ℕ). volume P (shownFrom P cap τ)) same;
-        fine = walked-fine P cap total inside enough (open-fine .cap-to) limit;
-        tries-ends = walked-tries P cap total;
+            w .closed ∙ ap (λ (τ : List ℕ). volume P (shownFrom P caps τ)) same;
+        fine = walked-fine P caps total inside enough (open-fine .caps-to) limit;
+        tries-ends = walked-tries P caps total;
         tries-limit = limit;
       }
     where
-      back : recordOf s ≡ walked P cap total
+      back : recordOf s ≡ walked P caps total
       back = ap recordOf e ∙ walked-back total
 
-      enough : P .size ≤ 2 * cap
+      enough : P .size ≤ caps .cap0 + caps .cap1
       enough = open-fine .enough

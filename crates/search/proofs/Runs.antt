@@ -8,7 +8,7 @@ use native.Mathlib.Numerals.{add-one}
 use native.Mathlib.Omega.{arith}
 use lib.ListN.{length}
 use Rattle.model.specs.Walk.{Record, Rules, tried, improved, tryOnce, walk}
-use Rattle.model.specs.State.{searchOf}
+use Rattle.model.specs.State.{capsIn, searchOf}
 use Rattle.model.proofs.Walk.Steps.{try-keeps, step-tries, walk-keeps, walk-adds, complete-stays}
 use Rattle.model.proofs.Walk.Left.{advance-length}
 use Rattle.state.specs.Ready.{Fits}
@@ -24,11 +24,11 @@ try-fits R r f =
     (λ s. Fits (R .k) s)
     (λ up room. record { trail-fits = room; best-fits = f .best-fits })
     (λ up long. record {
-      trail-fits = omega (arith, f .trail-fits, advance-length (r .trail));
+      trail-fits = omega (arith, f .trail-fits, advance-length (R .oneFirst) (r .trail));
       best-fits = λ τ e. omega (arith, f .trail-fits, ap length (some-same e));
     })
     (λ down. record {
-      trail-fits = omega (arith, f .trail-fits, advance-length (r .trail));
+      trail-fits = omega (arith, f .trail-fits, advance-length (R .oneFirst) (r .trail));
       best-fits = f .best-fits;
     })
 
@@ -52,22 +52,22 @@ walk-done R i budget r b (inr done) =
     let e : budget ≡ i + (budget - i) = omega arith in
     sym (ap (λ (j : ℕ). walk R j r) e ∙ walk-adds R i (budget - i) r ∙ complete-stays R (budget - i) (walk R i r) done)
 
--- a walk keeps the cap
-pub walk-cap : (R : Rules) (i : ℕ) (r : Record) → walk R i r .cap ≡ r .cap
+-- a walk keeps the caps
+pub walk-caps : (R : Rules) (i : ℕ) (r : Record) → walk R i r .caps ≡ r .caps
 unfolding tried improved
-walk-cap R i r =
+walk-caps R i r =
     walk-keeps
     R
-    (λ s. s .cap ≡ r .cap)
-    (λ s going e. try-keeps R s (λ t. t .cap ≡ r .cap) (λ up room. e) (λ up long. e) (λ down. e))
+    (λ s. s .caps ≡ r .caps)
+    (λ s going e. try-keeps R s (λ t. t .caps ≡ r .caps) (λ up room. e) (λ up long. e) (λ down. e))
     i
     r
     refl
 
 -- what is read off the search of a record
-pub search-cap : (r : Record) → searchOf r .cap ≡ r .cap
+pub search-caps : (r : Record) → capsIn (searchOf r) ≡ r .caps
 unfolding searchOf
-search-cap r = refl
+search-caps r = refl
 
 pub search-complete : (r : Record) → searchOf r .complete ≡ r .complete
 unfolding searchOf

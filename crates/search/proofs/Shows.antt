@@ -18,7 +18,7 @@ use Rattle.model.specs.declared.Search.{Search}
 use Rattle.model.specs.Pattern.{Pattern, patternOf}
 use Rattle.model.specs.Split.{volume}
 use Rattle.model.specs.Walk.{Record, Rules, rulesOf, beginningsLater, openMarkings, leastBound, floor}
-use Rattle.model.specs.State.{marksIn, bestIn, recordOf, stateFine}
+use Rattle.model.specs.State.{capsIn, marksIn, bestIn, recordOf, stateFine}
 use Rattle.model.specs.Calls.{listVerdict, showVerdict, shownFrom, shown, partBytes, shownParts, shownAfter, partsAfter, showCall, showParts}
 use Rattle.model.proofs.Theorems.Checks.{refuse-so, refuse-no}
 use Rattle.state.specs.Ready.{Ready, Fits}
@@ -30,13 +30,13 @@ use Rattle.search.specs.Showing.{roomBy}
 module _ (R : Rules) (s : Search) where
   pub floor-done : s .complete ≡ true → s .«best_count» ≡ floor R (recordOf s)
   unfolding floor openMarkings leastBound recordOf
-  floor-done h = sym (ap (leastBound R (s .«best_count»)) (pick-true [] (marksIn (s .trail) ∷ beginningsLater (marksIn (s .trail))) h))
+  floor-done h = sym (ap (leastBound R (s .«best_count»)) (pick-true [] (marksIn (s .trail) ∷ beginningsLater (R .oneFirst) (marksIn (s .trail))) h))
 
   pub floor-open :
       (x : ℕ) → s .complete ≡ false →
-      x ≡ leastBound R (s .«best_count») (marksIn (s .trail) ∷ beginningsLater (marksIn (s .trail))) → x ≡ floor R (recordOf s)
+      x ≡ leastBound R (s .«best_count») (marksIn (s .trail) ∷ beginningsLater (R .oneFirst) (marksIn (s .trail))) → x ≡ floor R (recordOf s)
   unfolding floor openMarkings recordOf
-  floor-open x h e = e ∙ sym (ap (leastBound R (s .«best_count»)) (pick-false [] (marksIn (s .trail) ∷ beginningsLater (marksIn (s .trail))) h))
+  floor-open x h e = e ∙ sym (ap (leastBound R (s .«best_count»)) (pick-false [] (marksIn (s .trail) ∷ beginningsLater (R .oneFirst) (marksIn (s .trail))) h))
 
 -- the parts are too short, or not
 pub room-short : (parts : List ℕ) (nonzeros : ℕ) → length parts < nonzeros → roomBy parts nonzeros ≡ Refused ShortBuffer 0
@@ -64,39 +64,39 @@ best-none s h = ap (λ (b : Bool). bestIn b (s .best)) h
 -- an accepted one
 module _ (s : Search) (P : Pattern) (v : Verdict) (e : v ≡ Accepted) where
   pub shown-split :
-      (vol low : ℕ) → s .found ≡ true → vol ≡ volume P (shownFrom P (s .cap) (marksIn (s .best))) →
-      low ≡ floor (rulesOf P (s .cap)) (recordOf s) →
+      (vol low : ℕ) → s .found ≡ true → vol ≡ volume P (shownFrom P (capsIn s) (marksIn (s .best))) →
+      low ≡ floor (rulesOf P (capsIn s)) (recordOf s) →
       show-answer.Split vol low ≡ shownAfter v (recordOf s) P
   unfolding shownAfter shown recordOf
   shown-split vol low h a b =
       ap (λ (x : ℕ). show-answer.Split x low) a
-      ∙ ap (show-answer.Split (volume P (shownFrom P (s .cap) (marksIn (s .best))))) b
-      ∙ ap (λ (o : Option (List ℕ)). shown P (s .cap) o (floor (rulesOf P (s .cap)) (recordOf s))) (sym (best-some s h))
+      ∙ ap (show-answer.Split (volume P (shownFrom P (capsIn s) (marksIn (s .best))))) b
+      ∙ ap (λ (o : Option (List ℕ)). shown P (capsIn s) o (floor (rulesOf P (capsIn s)) (recordOf s))) (sym (best-some s h))
       ∙ ap (λ (x : Verdict). shownAfter x (recordOf s) P) (sym e)
 
   pub shown-none :
-      (low : ℕ) → s .found ≡ false → low ≡ floor (rulesOf P (s .cap)) (recordOf s) →
+      (low : ℕ) → s .found ≡ false → low ≡ floor (rulesOf P (capsIn s)) (recordOf s) →
       show-answer.NoneYet low ≡ shownAfter v (recordOf s) P
   unfolding shownAfter shown recordOf
   shown-none low h b =
       ap show-answer.NoneYet b
-      ∙ ap (λ (o : Option (List ℕ)). shown P (s .cap) o (floor (rulesOf P (s .cap)) (recordOf s))) (sym (best-none s h))
+      ∙ ap (λ (o : Option (List ℕ)). shown P (capsIn s) o (floor (rulesOf P (capsIn s)) (recordOf s))) (sym (best-none s h))
       ∙ ap (λ (x : Verdict). shownAfter x (recordOf s) P) (sym e)
 
   pub parts-split :
       (size : ℕ) (parts new : List ℕ) → P .size ≡ size → s .found ≡ true →
-      new ≡ partBytes (shownFrom P (s .cap) (marksIn (s .best))) size parts → new ≡ partsAfter v (recordOf s) P parts
+      new ≡ partBytes (shownFrom P (capsIn s) (marksIn (s .best))) size parts → new ≡ partsAfter v (recordOf s) P parts
   unfolding partsAfter shownParts recordOf
   parts-split size parts new sized h a =
       a
-      ∙ ap (λ (x : ℕ). partBytes (shownFrom P (s .cap) (marksIn (s .best))) x parts) (sym sized)
-      ∙ ap (λ (o : Option (List ℕ)). shownParts P (s .cap) o parts) (sym (best-some s h))
+      ∙ ap (λ (x : ℕ). partBytes (shownFrom P (capsIn s) (marksIn (s .best))) x parts) (sym sized)
+      ∙ ap (λ (o : Option (List ℕ)). shownParts P (capsIn s) o parts) (sym (best-some s h))
       ∙ ap (λ (x : Verdict). partsAfter x (recordOf s) P parts) (sym e)
 
   pub parts-none : (parts : List ℕ) → s .found ≡ false → parts ≡ partsAfter v (recordOf s) P parts
   unfolding partsAfter shownParts recordOf
   parts-none parts h =
-      ap (λ (o : Option (List ℕ)). shownParts P (s .cap) o parts) (sym (best-none s h))
+      ap (λ (o : Option (List ℕ)). shownParts P (capsIn s) o parts) (sym (best-none s h))
       ∙ ap (λ (x : Verdict). partsAfter x (recordOf s) P parts) (sym e)
 
 -- the whole call
@@ -107,7 +107,7 @@ module _ (m n nonzeros : ℕ) (list parts : List ℕ) (s : Search) where
 
   module _
       (places starts : List ℕ) (k : ℕ) (listed : listVerdict m n nonzeros list ≡ Accepted) (ready : Ready m n nonzeros list places starts k)
-      (fine : stateFine (rulesOf (patternOf m n nonzeros list) (s .cap)) m n nonzeros (recordOf s) ≡ true) where
+      (fine : stateFine (rulesOf (patternOf m n nonzeros list) (capsIn s)) m n nonzeros (recordOf s) ≡ true) where
     room-left : roomBy parts nonzeros ≡ showVerdict (recordOf s) m n nonzeros list parts
     room-left = sym (show-checks ∙ then-later s m n nonzeros list (roomBy parts nonzeros) listed fine)
 

@@ -7,6 +7,7 @@ use native.Mathlib.Omega.{arith}
 use lib.ListN.{length, getD}
 use Rattle.model.specs.declared.Part.the-variants.{Zero}
 use Rattle.trail.specs.declared.Trail.{Trail}
+use Rattle.model.specs.declared.Caps.{Caps}
 use Rattle.model.specs.Pattern.{patternOf}
 use Rattle.model.specs.Split.{volume}
 use Rattle.model.specs.Marking.{marking, taken}
@@ -33,15 +34,15 @@ unfolding trailOf
 trail-parts τ = (refl, refl)
 
 module _
-    (m n nonzeros : ℕ) (list places starts : List ℕ) (cap total : ℕ) (best kept : Trail) (entries parts new : List ℕ) (judged : Evaluation)
+    (m n nonzeros : ℕ) (list places starts : List ℕ) (caps : Caps) (total : ℕ) (best kept : Trail) (entries parts new : List ℕ) (judged : Evaluation)
     (clears : kept ≡ clearedTo best)
     (all : total ≡ m + n) (few : total < 512)
     (marked : (length entries ≡ 512) × ((l : ℕ) → l < 512 → getD entries l 0 ≡ markFor total places (kept .marks) (kept .len) l))
-    (judges : Listed m n nonzeros list starts → Evaluates (patternOf m n nonzeros list) cap (markingIn entries) judged)
-    (writes : judged .zero ≡ taken (patternOf m n nonzeros list) (markingIn entries) Zero → new ≡ partBytes (shownSplit (patternOf m n nonzeros list) cap (markingIn entries)) nonzeros parts)
+    (judges : Listed m n nonzeros list starts → Evaluates (patternOf m n nonzeros list) caps (markingIn entries) judged)
+    (writes : judged .zero ≡ taken (patternOf m n nonzeros list) (markingIn entries) Zero → new ≡ partBytes (shownSplit (patternOf m n nonzeros list) caps (markingIn entries)) nonzeros parts)
     (listed : Listed m n nonzeros list starts) (placed : Placed (patternOf m n nonzeros list) places) (short : best .len ≤ 240) where
   -- the parts, where the marks by line are those of the marking
-  pub parts-shown : new ≡ partBytes (shownFrom (patternOf m n nonzeros list) cap (marksIn best)) nonzeros parts
+  pub parts-shown : new ≡ partBytes (shownFrom (patternOf m n nonzeros list) caps (marksIn best)) nonzeros parts
   unfolding shownFrom
   parts-shown =
       let P = patternOf m n nonzeros list in
@@ -50,17 +51,17 @@ module _
       let same = by-line m n nonzeros list places (kept .marks) entries (kept .len) total all few marked placed τ (omega (arith, marks-length best)) (ap (λ (t : Trail). t .marks) held ∙ trail-parts τ .0) (ap (λ (t : Trail). t .len) held ∙ trail-parts τ .1) in
       let k : AlikeMarks P P (markingIn entries) (marking P τ) = inside-marks (listed .inside) (alike-self P) same in
       writes (judges listed .zero-is)
-      ∙ ap (λ (x : ℕ). partBytes (shownSplit P cap (markingIn entries)) x parts) (sym (size-of m n nonzeros list))
-      ∙ shown-bytes-same k cap parts
-      ∙ ap (λ (x : ℕ). partBytes (shownSplit P cap (marking P τ)) x parts) (size-of m n nonzeros list)
+      ∙ ap (λ (x : ℕ). partBytes (shownSplit P caps (markingIn entries)) x parts) (sym (size-of m n nonzeros list))
+      ∙ shown-bytes-same k caps parts
+      ∙ ap (λ (x : ℕ). partBytes (shownSplit P caps (marking P τ)) x parts) (size-of m n nonzeros list)
 
   -- and the volume read off them
   pub volume-shown :
       (r : ℕ) → nonzeros ≤ length parts → r ≡ volume (patternOf m n nonzeros list) (splitOf new) →
-      r ≡ volume (patternOf m n nonzeros list) (shownFrom (patternOf m n nonzeros list) cap (marksIn best))
+      r ≡ volume (patternOf m n nonzeros list) (shownFrom (patternOf m n nonzeros list) caps (marksIn best))
   volume-shown r room e =
       let P = patternOf m n nonzeros list in
-      let σ = shownFrom P cap (marksIn best) in
+      let σ = shownFrom P caps (marksIn best) in
       e
       ∙ ap (λ (b : List ℕ). volume P (splitOf b)) (parts-shown ∙ ap (λ (x : ℕ). partBytes σ x parts) (sym (size-of m n nonzeros list)))
       ∙ volume-back P σ parts (omega (arith, size-of m n nonzeros list, room))

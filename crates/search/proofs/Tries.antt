@@ -7,7 +7,7 @@ use Prim.Native.Nat.{ℕ, _+_, _≤_, _<_}
 use lib.ListN.{length}
 use Rattle.trail.specs.Trail.{advanced}
 use Rattle.model.specs.declared.Search.{Search}
-use Rattle.model.specs.Walk.{Record, cuts, advance, tried, improved, outcome}
+use Rattle.model.specs.Walk.{Record, Rules, cuts, advance, tried, improved, outcome}
 use Rattle.model.specs.State.{arrayOf, trailOf, isFound, bestOr, searchOf}
 use Rattle.marking.proofs.Trails.{appended-is, advanced-is}
 use Rattle.state.specs.Legal.{cutsIn}
@@ -28,7 +28,8 @@ tried-is r τ =
       m = r .m;
       n = r .n;
       nonzeros = r .nonzeros;
-      cap = r .cap;
+      cap0 = r .caps .cap0;
+      cap1 = r .caps .cap1;
       tries = r .tries + 1;
       «best_count» = r .bestCount;
       found = isFound (r .best);
@@ -45,7 +46,8 @@ improved-is r b =
       m = r .m;
       n = r .n;
       nonzeros = r .nonzeros;
-      cap = r .cap;
+      cap0 = r .caps .cap0;
+      cap1 = r .caps .cap1;
       tries = r .tries;
       «best_count» = cuts-of (r .trail) b i;
       found = true;
@@ -56,21 +58,22 @@ improved-is r b =
 
 -- what a try does to the search of a record
 pub outcome-is :
-    (stands shorter : Bool) (r : Record) → length (r .trail) ≤ 240 → (shorter ≡ true → length (r .trail) < 240) →
-    outcomeBy stands shorter (searchOf r) ≡ searchOf (outcome stands shorter r)
+    (R : Rules) (stands shorter : Bool) (r : Record) → length (r .trail) ≤ 240 → (shorter ≡ true → length (r .trail) < 240) →
+    outcomeBy (R .oneFirst) stands shorter (searchOf r) ≡ searchOf (outcome R stands shorter r)
 unfolding outcomeBy outcome searchOf
-outcome-is true true r b room =
+outcome-is R true true r b room =
     ap (triedTo (searchOf r)) (appended-is 0 (r .trail) (room refl)) ∙ tried-is r (0 ∷ r .trail)
-outcome-is true false r b room =
-    ap (λ (s : Search). triedTo s (advanced (trailOf (r .trail)))) (improved-is r b)
-    ∙ ap (triedTo (searchOf (improved r))) (advanced-is (r .trail) b)
-    ∙ tried-is (improved r) (advance (r .trail))
-outcome-is false shorter r b room =
-    ap (triedTo (searchOf r)) (advanced-is (r .trail) b) ∙ tried-is r (advance (r .trail))
+outcome-is R true false r b room =
+    ap (λ (s : Search). triedTo s (advanced (R .oneFirst) (trailOf (r .trail)))) (improved-is r b)
+    ∙ ap (triedTo (searchOf (improved r))) (advanced-is (R .oneFirst) (r .trail) b)
+    ∙ tried-is (improved r) (advance (R .oneFirst) (r .trail))
+outcome-is R false shorter r b room =
+    ap (triedTo (searchOf r)) (advanced-is (R .oneFirst) (r .trail) b) ∙ tried-is r (advance (R .oneFirst) (r .trail))
 
 -- what a try does, by what its tests come to
-pub outcome-by : {up short : Bool} (u t : Bool) (s : Search) → up ≡ u → short ≡ t → outcomeBy u t s ≡ outcomeBy up short s
-outcome-by u t s e f = λ i. outcomeBy (sym e i) (sym f i) s
+pub outcome-by :
+    {up short : Bool} (first u t : Bool) (s : Search) → up ≡ u → short ≡ t → outcomeBy first u t s ≡ outcomeBy first up short s
+outcome-by first u t s e f = λ i. outcomeBy first (sym e i) (sym f i) s
 
 -- a better marking makes no try
 pub improved-tries : (s t : Search) → t ≡ improvedBy s → t .tries ≡ s .tries
@@ -78,12 +81,12 @@ unfolding improvedBy
 improved-tries s t e = ap (λ (x : Search). x .tries) e
 
 -- a try counts
-counts-one : (stands shorter : Bool) (s : Search) → outcomeBy stands shorter s .tries ≡ s .tries + 1
+counts-one : (first stands shorter : Bool) (s : Search) → outcomeBy first stands shorter s .tries ≡ s .tries + 1
 unfolding outcomeBy triedTo improvedBy
-counts-one true true s = refl
-counts-one true false s = refl
-counts-one false shorter s = refl
+counts-one first true true s = refl
+counts-one first true false s = refl
+counts-one first false shorter s = refl
 
 pub outcome-tries :
-    (stands shorter : Bool) (s r : Search) → r ≡ outcomeBy stands shorter s → r .tries ≡ s .tries + 1
-outcome-tries stands shorter s r e = ap (λ (x : Search). x .tries) e ∙ counts-one stands shorter s
+    (first stands shorter : Bool) (s r : Search) → r ≡ outcomeBy first stands shorter s → r .tries ≡ s .tries + 1
+outcome-tries first stands shorter s r e = ap (λ (x : Search). x .tries) e ∙ counts-one first stands shorter s

@@ -8,6 +8,7 @@ use Prim.Native.Nat.{ℕ, _+_, _*_, _<_}
 use lib.ListN.{getD}
 use Rattle.model.specs.declared.Verdict.{Verdict}
 use Rattle.model.specs.declared.Verdict.the-variants.{Accepted}
+use Rattle.model.specs.declared.Caps.{Caps}
 use Rattle.model.specs.declared.Search.{Search}
 use Rattle.model.specs.declared.Opened.{Opened}
 use Rattle.model.specs.declared.RunAnswer.{RunAnswer}
@@ -60,18 +61,18 @@ abbrev pub showTable : {m n nonzeros : ℕ} {list : List ℕ} → Record → Han
 showTable r handed parts = showVerdict r (handed .rows) (handed .columns) (handed .size) (handed .slice) parts
 
 -- history: an accepted opening, then runs and showings, with the search that they leave and the sum of the accepted budgets
-pub data History (m n nonzeros : ℕ) (list : List ℕ) (cap : ℕ) : Search → ℕ → Type 0 where
+pub data History (m n nonzeros : ℕ) (list : List ℕ) (caps : Caps) : Search → ℕ → Type 0 where
   opened :
-      (answer : Opened) → answer ≡ openCall m n nonzeros list cap → answer .verdict ≡ Accepted →
-      History m n nonzeros list cap (answer .search) 0
+      (answer : Opened) → answer ≡ openCall m n nonzeros list caps → answer .verdict ≡ Accepted →
+      History m n nonzeros list caps (answer .search) 0
   ran :
-      {s : Search} {total : ℕ} → History m n nonzeros list cap s total →
+      {s : Search} {total : ℕ} → History m n nonzeros list caps s total →
       (handed : Handed m n nonzeros list) (budget : ℕ) (answer : Ran) →
       answer ≡ runOf s handed budget →
-      History m n nonzeros list cap (answer .search) (total + acceptedBudget (answer .answer) budget)
+      History m n nonzeros list caps (answer .search) (total + acceptedBudget (answer .answer) budget)
   showed :
-      {s : Search} {total : ℕ} → History m n nonzeros list cap s total →
+      {s : Search} {total : ℕ} → History m n nonzeros list caps s total →
       (handed : Handed m n nonzeros list) (parts after : List ℕ) (answer : ShowAnswer) →
       answer ≡ showOf s handed parts →
       after ≡ partsOf s handed parts →
-      History m n nonzeros list cap s total
+      History m n nonzeros list caps s total

@@ -17,7 +17,8 @@ triedTo s next =
       m = s .m;
       n = s .n;
       nonzeros = s .nonzeros;
-      cap = s .cap;
+      cap0 = s .cap0;
+      cap1 = s .cap1;
       tries = s .tries + 1;
       «best_count» = s .«best_count»;
       found = s .found;
@@ -33,7 +34,8 @@ improvedBy s =
       m = s .m;
       n = s .n;
       nonzeros = s .nonzeros;
-      cap = s .cap;
+      cap0 = s .cap0;
+      cap1 = s .cap1;
       tries = s .tries;
       «best_count» = cutsIn (s .trail .marks) (s .trail .len);
       found = true;
@@ -42,11 +44,11 @@ improvedBy s =
       trail = s .trail;
     }
 
--- what a try does to a trail that stands or not, shorter than k or not
-unfoldable pub outcomeBy : Bool → Bool → Search → Search
-outcomeBy true true s = triedTo s (appended (s .trail) 0)
-outcomeBy true false s = triedTo (improvedBy s) (advanced (s .trail))
-outcomeBy false shorter s = triedTo s (advanced (s .trail))
+-- what a try does to a trail that stands or not, shorter than k or not, where mark 1 may come first or not
+unfoldable pub outcomeBy : Bool → Bool → Bool → Search → Search
+outcomeBy first true true s = triedTo s (appended (s .trail) 0)
+outcomeBy first true false s = triedTo (improvedBy s) (advanced first (s .trail))
+outcomeBy first false shorter s = triedTo s (advanced first (s .trail))
 
 -- an evaluated trail stands against a best count
 unfoldable pub standsBy : Evaluation → ℕ → Bool

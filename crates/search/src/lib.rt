@@ -1,6 +1,7 @@
 // The search: opening, run and showing.
 use crate::presenting::show_search;
 use crate::trying::running::run_search;
+use model::Caps;
 use model::Opened;
 use model::Ran;
 use model::Search;
@@ -12,21 +13,23 @@ use state::holding::no_search;
 use state::lines::line_total;
 ghost use mathlib.Core.Path.{_≡_};
 ghost use Rattle.model.specs.Refusal.{verdictReply};
+ghost use Rattle.model.specs.Split.{capsOf};
 ghost use Rattle.model.specs.Calls.{openCall, runCall, showCall, showParts, runReply, showReply, openReplies, runReplies, showReplies};
 
 mod presenting;
 mod trying;
 
-// Opens a search of a pattern under a cap.
-pub fn open(m: u64, n: u64, nonzeros: u64, list: &[u8], cap: u64) -> Opened
-    ensures answer { λ r. ⌜ r ≡ openCall m n nonzeros (now (list .entry)) cap ⌝ }
-    ensures reply { λ r. ⌜ verdictReply (r .verdict) ≡ openReplies m n nonzeros (now (list .entry)) cap ⌝ }
+// Opens a search of a pattern under cap 0 and cap 1.
+pub fn open(m: u64, n: u64, nonzeros: u64, list: &[u8], cap0: u64, cap1: u64) -> Opened
+    ensures answer { λ r. ⌜ r ≡ openCall m n nonzeros (now (list .entry)) (capsOf cap0 cap1) ⌝ }
+    ensures reply { λ r. ⌜ verdictReply (r .verdict) ≡ openReplies m n nonzeros (now (list .entry)) (capsOf cap0 cap1) ⌝ }
 {
-    let verdict = open_verdict(m, n, nonzeros, list, cap);
+    let caps = Caps { cap0, cap1 };
+    let verdict = open_verdict(m, n, nonzeros, list, caps);
     match verdict {
         Verdict::Accepted => {
             let k = line_total(m as u8, n as u8, nonzeros as u16, list);
-            let search = fresh_search(m, n, nonzeros, cap, k);
+            let search = fresh_search(m, n, nonzeros, caps, k);
             Opened {
                 verdict: Verdict::Accepted,
                 search,

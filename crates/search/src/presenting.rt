@@ -5,6 +5,7 @@ use bound::tables::places;
 use flooring::least::least_open;
 use marking::marks::marks_by_line;
 use matching::starts::row_starts;
+use model::Caps;
 use model::Search;
 use model::ShowAnswer;
 use model::Verdict;
@@ -24,7 +25,7 @@ ghost use Rattle.model.specs.declared.Verdict.the-variants.{Accepted};
 ghost use Rattle.model.specs.Pattern.{patternOf};
 ghost use Rattle.model.specs.Split.{volume};
 ghost use Rattle.model.specs.Walk.{rulesOf, floor};
-ghost use Rattle.model.specs.State.{marksIn, recordOf};
+ghost use Rattle.model.specs.State.{marksIn, capsIn, recordOf};
 ghost use Rattle.model.specs.Calls.{listVerdict, shownFrom, partBytes, shownAfter, partsAfter, showCall, showParts};
 ghost use Rattle.bound.specs.Evaluated.{Listed, Placed};
 ghost use Rattle.state.specs.Ready.{Fits, Ready};
@@ -42,24 +43,18 @@ fn floor_of(
 ) -> u64
     ensures { λ r. ⌜ (Listed m n nonzeros (now (list .entry)) (now (starts .entry)) →
         Placed (patternOf m n nonzeros (now (list .entry))) (now (places .entry)) → search .trail .len ≤ 240 →
-        r ≡ floor (rulesOf (patternOf m n nonzeros (now (list .entry))) (search .cap)) (recordOf search)) ⌝ }
+        r ≡ floor (rulesOf (patternOf m n nonzeros (now (list .entry))) (capsIn search)) (recordOf search)) ⌝ }
 {
     let best = search.best_count;
     if search.complete {
         return best;
     }
     let trail = cleared(search.trail);
-    least_open(
-        m,
-        n,
-        nonzeros,
-        list,
-        search.cap,
-        places,
-        starts,
-        trail,
-        best,
-    )
+    let caps = Caps {
+        cap0: search.cap0,
+        cap1: search.cap1,
+    };
+    least_open(m, n, nonzeros, list, caps, places, starts, trail, best)
 }
 
 // Writes the split that a marking shows to the parts, and gives its volume.
@@ -69,7 +64,7 @@ fn show_split(
     n: u8,
     nonzeros: u16,
     list: &[u8],
-    cap: u64,
+    caps: Caps,
     places: &[u16; 512],
     starts: &[u16; 257],
     parts: &mut [u8],
@@ -77,16 +72,16 @@ fn show_split(
     ensures volume { λ r. ⌜ (Listed m n nonzeros (now (list .entry)) (now (starts .entry)) →
         Placed (patternOf m n nonzeros (now (list .entry))) (now (places .entry)) → best .len ≤ 240 →
         nonzeros ≤ length (now (parts .entry)) →
-        r ≡ volume (patternOf m n nonzeros (now (list .entry))) (shownFrom (patternOf m n nonzeros (now (list .entry))) cap (marksIn best))) ⌝ }
+        r ≡ volume (patternOf m n nonzeros (now (list .entry))) (shownFrom (patternOf m n nonzeros (now (list .entry))) caps (marksIn best))) ⌝ }
     ensures parts { λ r. ⌜ (Listed m n nonzeros (now (list .entry)) (now (starts .entry)) →
         Placed (patternOf m n nonzeros (now (list .entry))) (now (places .entry)) → best .len ≤ 240 →
-        now (parts .exit) ≡ partBytes (shownFrom (patternOf m n nonzeros (now (list .entry))) cap (marksIn best)) nonzeros (now (parts .entry))) ⌝ }
+        now (parts .exit) ≡ partBytes (shownFrom (patternOf m n nonzeros (now (list .entry))) caps (marksIn best)) nonzeros (now (parts .entry))) ⌝ }
 {
     let kept = cleared(best);
     let marks = kept.marks;
     let by_line = marks_by_line(lines_of(m, n), places, &marks, kept.len);
-    let judged = evaluate_lines(m, n, nonzeros, list, cap, starts, &by_line);
-    write_split(m, n, nonzeros, list, cap, &by_line, judged.zero, parts);
+    let judged = evaluate_lines(m, n, nonzeros, list, caps, starts, &by_line);
+    write_split(m, n, nonzeros, list, caps, &by_line, judged.zero, parts);
     volume_of(m, n, nonzeros, list, parts)
 }
 
@@ -114,13 +109,17 @@ fn show_fine(
     }
     let floor = floor_of(search, m, n, nonzeros, list, places, starts);
     if search.found {
+        let caps = Caps {
+            cap0: search.cap0,
+            cap1: search.cap1,
+        };
         let volume = show_split(
             search.best,
             m,
             n,
             nonzeros,
             list,
-            search.cap,
+            caps,
             places,
             starts,
             parts,

@@ -1,7 +1,9 @@
 // One try on the struct of a search.
 use bound::Evaluation;
 use bound::evaluating::evaluate;
+use model::Caps;
 use model::Search;
+use pattern::cap::unequal_caps;
 use pattern::reading::wide16;
 use state::legal::cuts_before;
 use trail::Trail;
@@ -11,7 +13,7 @@ ghost use lib.Dec.{ltb};
 ghost use Rattle.model.specs.Limits.{triesLimit};
 ghost use Rattle.model.specs.Pattern.{patternOf};
 ghost use Rattle.model.specs.Walk.{Record, rulesOf, tryOnce};
-ghost use Rattle.model.specs.State.{searchOf};
+ghost use Rattle.model.specs.State.{capsIn, searchOf};
 ghost use Rattle.state.specs.Ready.{Fits, Ready};
 ghost use Rattle.search.specs.Trying.{standsBy, triedTo, improvedBy, outcomeBy};
 
@@ -42,10 +44,10 @@ fn improved(mut search: Search) -> Search
     search
 }
 
-// What a try does to a trail that stands or not.
-fn outcome(search: Search, stands: bool, k: usize) -> Search
+// What a try does to a trail that stands or not, where mark 1 may come first or not.
+fn outcome(search: Search, stands: bool, k: usize, first: bool) -> Search
     requires { ⌜ search .tries < triesLimit ⌝ }
-    ensures { λ r. ⌜ r ≡ outcomeBy stands (ltb (search .trail .len) k) search ⌝ }
+    ensures { λ r. ⌜ r ≡ outcomeBy first stands (ltb (search .trail .len) k) search ⌝ }
 {
     let trail = search.trail;
     let shorter = trail.len < k;
@@ -54,9 +56,9 @@ fn outcome(search: Search, stands: bool, k: usize) -> Search
             return tried(search, trail.append(0));
         }
         let better = improved(search);
-        return tried(better, trail.advance());
+        return tried(better, trail.advance(first));
     }
-    tried(search, trail.advance())
+    tried(search, trail.advance(first))
 }
 
 // The trail stands: it is valid and its bound is below the best count.
@@ -83,22 +85,16 @@ fn try_once(
     requires { ⌜ search .tries < triesLimit ⌝ }
     ensures { λ s. ⌜ (s .tries ≡ search .tries + 1) × (Ready m n nonzeros (now (list .entry)) (now (places .entry)) (now (starts .entry)) k →
         (r : Record) → search ≡ searchOf r → Fits k r →
-        s ≡ searchOf (tryOnce (rulesOf (patternOf m n nonzeros (now (list .entry))) (search .cap)) r)) ⌝ }
+        s ≡ searchOf (tryOnce (rulesOf (patternOf m n nonzeros (now (list .entry))) (capsIn search)) r)) ⌝ }
 {
     let trail = search.trail;
     let marks = trail.marks;
     let len = trail.len;
-    let judged = evaluate(
-        m,
-        n,
-        nonzeros,
-        list,
-        search.cap,
-        places,
-        starts,
-        &marks,
-        len,
-    );
+    let caps = Caps {
+        cap0: search.cap0,
+        cap1: search.cap1,
+    };
+    let judged = evaluate(m, n, nonzeros, list, caps, places, starts, &marks, len);
     let stands = judged_stands(judged, search.best_count);
-    outcome(search, stands, wide16(k))
+    outcome(search, stands, wide16(k), unequal_caps(caps))
 }

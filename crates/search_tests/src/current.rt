@@ -8,12 +8,13 @@ use testing::cases::field_at;
 use testing::cases::number_at;
 use testing::laying::first;
 
-// A pattern, a cap and where its cells stand among the cases; what its opening answered, and its search; and the place of the next field.
+// A pattern, its caps and where its cells stand among the cases; what its opening answered, and its search; and the place of the next field.
 pub struct Current {
     pub m: u64,
     pub n: u64,
     pub nonzeros: u64,
-    pub cap: u64,
+    pub cap0: u64,
+    pub cap1: u64,
     pub cells: usize,
     pub list: [u8; 4000],
     pub len: usize,
@@ -53,21 +54,23 @@ fn len_at(cases: &[u8], at: usize, count: u64) -> usize {
     }
 }
 
-// A fresh search: rows, columns, nonzeros, cap and cells.
+// A fresh search: rows, columns, nonzeros, cap 0, cap 1 and cells.
 pub(crate) fn fresh_at(cases: &[u8], at: usize) -> Current {
     let m = number_at(cases, at);
     let n = number_at(cases, m.next);
     let nonzeros = number_at(cases, n.next);
-    let cap = number_at(cases, nonzeros.next);
-    let cells = field_at(cases, cap.next, Kind::Numbers, &mut []);
-    let list = list_at(cases, cap.next);
-    let len = len_at(cases, cap.next, cells.value);
+    let cap0 = number_at(cases, nonzeros.next);
+    let cap1 = number_at(cases, cap0.next);
+    let cells = field_at(cases, cap1.next, Kind::Numbers, &mut []);
+    let list = list_at(cases, cap1.next);
+    let len = len_at(cases, cap1.next, cells.value);
     let opened = search::open(
         m.value,
         n.value,
         nonzeros.value,
         first(&list, len),
-        cap.value,
+        cap0.value,
+        cap1.value,
     );
     let verdict = opened.verdict;
     let search = opened.search;
@@ -75,8 +78,9 @@ pub(crate) fn fresh_at(cases: &[u8], at: usize) -> Current {
         m: m.value,
         n: n.value,
         nonzeros: nonzeros.value,
-        cap: cap.value,
-        cells: cap.next,
+        cap0: cap0.value,
+        cap1: cap1.value,
+        cells: cap1.next,
         list,
         len,
         verdict,

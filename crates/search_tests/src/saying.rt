@@ -24,7 +24,8 @@ pub(crate) fn say_sizes(words: &[u8], current: Current) {
     say_number(words, current.m);
     say_number(b" ", current.n);
     say_number(b" ", current.nonzeros);
-    say_number(b" cap ", current.cap);
+    say_number(b" caps ", current.cap0);
+    say_number(b" ", current.cap1);
 }
 
 // One letter.

@@ -13,6 +13,7 @@ use Rattle.counting.specs.Tests.{pick}
 use Rattle.counting.proofs.Joined.{no-way}
 use Rattle.model.specs.declared.Part.{Part}
 use Rattle.model.specs.declared.Part.the-variants.{Zero, One}
+use Rattle.model.specs.declared.Caps.{Caps}
 use Rattle.model.specs.Pattern.{Pattern}
 use Rattle.model.specs.Split.{Split, Meets, partNumber, volume}
 use Rattle.model.specs.Calls.{partBytes}
@@ -73,13 +74,13 @@ volume-back P σ parts fits =
 
 -- and it meets the same caps
 pub meets-back :
-    (P : Pattern) (cap : ℕ) (σ : Split) (parts : List ℕ) → P .size ≤ length parts → Meets P cap σ →
-    Meets P cap (splitOf (partBytes σ (P .size) parts))
-meets-back P cap σ parts fits meets =
+    (P : Pattern) (caps : Caps) (σ : Split) (parts : List ℕ) → P .size ≤ length parts → Meets P caps σ →
+    Meets P caps (splitOf (partBytes σ (P .size) parts))
+meets-back P caps σ parts fits meets =
     meets-same
     (alike-self P)
     σ
     (splitOf (partBytes σ (P .size) parts))
     (λ t b. sym (split-back σ (P .size) t parts fits b))
-    cap
+    caps
     meets

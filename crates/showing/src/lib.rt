@@ -2,6 +2,7 @@
 use counting::joining::bit_of;
 use counting::joining::both_of;
 use counting::joining::either_of;
+use model::Caps;
 use pattern::reading::column_of;
 use pattern::reading::long16;
 use pattern::reading::put;
@@ -35,11 +36,11 @@ fn shown_part(zero: bool, one: bool, room: bool) -> u8
     if room { 0 } else { 1 }
 }
 
-// Part 0 has fewer nonzeros than the cap: those taken and those filled in.
-fn has_room(taken: u16, filled: u16, cap: u64) -> bool
-    ensures { λ r. ⌜ r ≡ ltb (taken + filled) cap ⌝ }
+// Part 0 has fewer nonzeros than cap 0: those taken and those filled in.
+fn has_room(taken: u16, filled: u16, cap0: u64) -> bool
+    ensures { λ r. ⌜ r ≡ ltb (taken + filled) cap0 ⌝ }
 {
-    long16(taken) + long16(filled) < cap
+    long16(taken) + long16(filled) < cap0
 }
 
 // What a nonzero adds to those filled in: 1 if neither part takes it and part 0 has room.
@@ -63,13 +64,13 @@ pub fn write_split(
     n: u8,
     nonzeros: u16,
     list: &[u8],
-    cap: u64,
+    caps: Caps,
     marks: &[u8; 512],
     zero: u16,
     parts: &mut [u8],
 )
     ensures { λ _. ⌜ (zero ≡ taken (patternOf m n nonzeros (now (list .entry))) (markingIn (now (marks .entry))) Zero →
-        now (parts .exit) ≡ partBytes (shownSplit (patternOf m n nonzeros (now (list .entry))) cap (markingIn (now (marks .entry)))) nonzeros (now (parts .entry))) ⌝ }
+        now (parts .exit) ≡ partBytes (shownSplit (patternOf m n nonzeros (now (list .entry))) caps (markingIn (now (marks .entry)))) nonzeros (now (parts .entry))) ⌝ }
 {
     let mut filled: u16 = 0;
     let mut t: u16 = 0;
@@ -78,7 +79,7 @@ pub fn write_split(
         let column = column_of(list, t);
         let first = takes_by(marks, m, row, column, 0);
         let second = takes_by(marks, m, row, column, 1);
-        let room = has_room(zero, filled, cap);
+        let room = has_room(zero, filled, caps.cap0);
         write_part(parts, t, shown_part(first, second, room));
         filled = filled + filled_by(first, second, room);
         t = t + 1;

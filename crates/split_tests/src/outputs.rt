@@ -25,9 +25,9 @@ fn answer_into(input: &[u8], page: &mut [u8], room: usize) -> usize {
     }
 }
 
-// An answer into the first bytes of a page of 120 points.
+// An answer into the first bytes of a page of 124 points.
 fn answer_within(input: &[u8], room: usize) {
-    let mut page = [b'.'; 120];
+    let mut page = [b'.'; 124];
     let len = answer_into(input, &mut page, room);
     say_page(len, &page);
 }

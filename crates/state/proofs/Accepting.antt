@@ -15,7 +15,7 @@ use Rattle.model.specs.declared.Search.{Search}
 use Rattle.model.specs.Limits.{lineLimit}
 use Rattle.model.specs.Pattern.{patternOf, lineTotal}
 use Rattle.model.specs.Walk.{Record, Rules, rulesOf, cuts, isEmpty}
-use Rattle.model.specs.State.{marksIn, bestIn, recordOf, searchOf, areMarks, startsWithZero, beginningsValid, trailFine, bestFine, stateFine}
+use Rattle.model.specs.State.{marksIn, bestIn, capsIn, recordOf, searchOf, areMarks, onesAllowed, beginningsValid, trailFine, bestFine, stateFine}
 use Rattle.model.specs.Calls.{listVerdict}
 use Rattle.state.specs.Holding.{normalOf}
 use Rattle.matching.specs.Starts.{rowStart}
@@ -50,7 +50,7 @@ trail-short R false τ h =
     (and-right
     (not (isEmpty τ))
     (leb (length τ) (R .k))
-    (and-left _ (areMarks τ) (and-left _ (startsWithZero τ) (and-left _ (beginningsValid R τ) h))))
+    (and-left _ (areMarks τ) (and-left _ (onesAllowed (R .oneFirst) τ) (and-left _ (beginningsValid R τ) h))))
 
 -- a best marking that is not refused has k
 best-short : (R : Rules) (o : Option (List ℕ)) (count : ℕ) (complete : Bool) → bestFine R o count complete ≡ true → (τ : List ℕ) → o ≡ some τ → length τ ≤ R .k
@@ -116,7 +116,7 @@ fits-at j k r e f = record { trail-fits = omega (arith, e, f .trail-fits); best-
 -- a state that is not refused, on tables at hand: its markings fit, and its cleared search is that of its record
 pub ready-fits :
     (m n nonzeros : ℕ) (list places starts : List ℕ) (k : ℕ) (s : Search) → Ready m n nonzeros list places starts k →
-    stateFine (rulesOf (patternOf m n nonzeros list) (s .cap)) m n nonzeros (recordOf s) ≡ true → Fits k (recordOf s)
+    stateFine (rulesOf (patternOf m n nonzeros list) (capsIn s)) m n nonzeros (recordOf s) ≡ true → Fits k (recordOf s)
 ready-fits m n nonzeros list places starts k s ready fine =
     let P = patternOf m n nonzeros list in
-    fits-at _ k (recordOf s) (rules-k P (s .cap) ∙ sym (ready .total)) (fine-fits (rulesOf P (s .cap)) m n nonzeros (recordOf s) fine)
+    fits-at _ k (recordOf s) (rules-k P (capsIn s) ∙ sym (ready .total)) (fine-fits (rulesOf P (capsIn s)) m n nonzeros (recordOf s) fine)

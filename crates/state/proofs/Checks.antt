@@ -12,7 +12,7 @@ use Rattle.model.specs.declared.Search.{Search}
 use Rattle.model.specs.Refusal.{refuse, _then_}
 use Rattle.model.specs.Pattern.{patternOf}
 use Rattle.model.specs.Walk.{rulesOf}
-use Rattle.model.specs.State.{recordOf, stateFine}
+use Rattle.model.specs.State.{capsIn, recordOf, stateFine}
 use Rattle.model.specs.Calls.{listVerdict}
 use Rattle.model.proofs.Theorems.Checks.{refuse-so, refuse-no}
 
@@ -20,27 +20,27 @@ use Rattle.model.proofs.Theorems.Checks.{refuse-so, refuse-no}
 unfoldable pub stateThen : Search → ℕ → ℕ → ℕ → List ℕ → Verdict → Verdict
 stateThen s m n nonzeros list later =
     listVerdict m n nonzeros list
-    then refuse (not (stateFine (rulesOf (patternOf m n nonzeros list) (s .cap)) m n nonzeros (recordOf s))) State 0
+    then refuse (not (stateFine (rulesOf (patternOf m n nonzeros list) (capsIn s)) m n nonzeros (recordOf s))) State 0
     then later
 
 module _ (s : Search) (m n nonzeros : ℕ) (list : List ℕ) (later : Verdict) where
   -- the state is fine
   pub then-later :
       listVerdict m n nonzeros list ≡ Accepted →
-      stateFine (rulesOf (patternOf m n nonzeros list) (s .cap)) m n nonzeros (recordOf s) ≡ true →
+      stateFine (rulesOf (patternOf m n nonzeros list) (capsIn s)) m n nonzeros (recordOf s) ≡ true →
       stateThen s m n nonzeros list later ≡ later
   unfolding stateThen _then_
   then-later listed fine =
-      rw (listed, refuse-no {test = not (stateFine (rulesOf (patternOf m n nonzeros list) (s .cap)) m n nonzeros (recordOf s))} State 0 (ap not fine))
+      rw (listed, refuse-no {test = not (stateFine (rulesOf (patternOf m n nonzeros list) (capsIn s)) m n nonzeros (recordOf s))} State 0 (ap not fine))
 
   -- the state is refused
   pub then-unfit :
       listVerdict m n nonzeros list ≡ Accepted →
-      stateFine (rulesOf (patternOf m n nonzeros list) (s .cap)) m n nonzeros (recordOf s) ≡ false →
+      stateFine (rulesOf (patternOf m n nonzeros list) (capsIn s)) m n nonzeros (recordOf s) ≡ false →
       stateThen s m n nonzeros list later ≡ Refused State 0
   unfolding stateThen _then_
   then-unfit listed unfit =
-      rw (listed, refuse-so {test = not (stateFine (rulesOf (patternOf m n nonzeros list) (s .cap)) m n nonzeros (recordOf s))} State 0 (ap not unfit))
+      rw (listed, refuse-so {test = not (stateFine (rulesOf (patternOf m n nonzeros list) (capsIn s)) m n nonzeros (recordOf s))} State 0 (ap not unfit))
 
   -- the list is refused
   pub then-unlisted :

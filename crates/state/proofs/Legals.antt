@@ -11,11 +11,11 @@ use borrow.Author.Tests.{le-leb, lt-leb, eqb-true, eqb-false}
 use Rattle.counting.specs.Tests.{_and_, _or_}
 use Rattle.counting.proofs.Joined.{no-way, clash, by-test, and-intro, and-fails-left, and-fails-right}
 use Rattle.trail.specs.Trail.{markOr, isPart, givesPartIn}
-use Rattle.trail.proofs.Methods.{gives-more}
+use Rattle.trail.proofs.Methods.{gives-none, gives-more}
 use Rattle.model.specs.Walk.{oneAllowed}
-use Rattle.model.specs.State.{stack, areMarks, startsWithZero}
+use Rattle.model.specs.State.{stack, areMarks, onesAllowed}
 use Rattle.marking.proofs.Trails.{gives-is}
-use Rattle.state.specs.Legal.{marksLegal, oneDenied, zeroFirst}
+use Rattle.state.specs.Legal.{marksLegal, oneDenied, onesLegal}
 
 -- a test of the first marks that holds of one mark more just where a test of that mark passes too fails behind a mark that fails it
 falls-behind :
@@ -50,10 +50,6 @@ pub legal-fails : (marks : List ℕ) (i end : ℕ) → i < end → 2 < markOr 0 
 legal-fails marks i end b h =
     falls-behind (marksLegal marks) (λ j. leb (markOr 0 marks j) 2) (legal-step marks) i end b (lt-leb (markOr 0 marks i) 2 h)
 
--- a mark is allowed
-allowed-at : List ℕ → ℕ → Bool
-allowed-at marks i = not (eqb (markOr 0 marks i) 1) or givesPartIn marks i
-
 denied-passes : (part one : Bool) → not part and one ≡ false → not one or part ≡ true
 unfolding _and_ _or_
 denied-passes true true h = refl
@@ -67,45 +63,73 @@ denied-fails true one h = clash h refl
 denied-fails false true h = refl
 denied-fails false false h = clash h refl
 
-first-step : (marks : List ℕ) (i : ℕ) → zeroFirst marks (suc i) ≡ allowed-at marks i and zeroFirst marks i
-unfolding zeroFirst startsWithZero stack oneAllowed allowed-at
-first-step marks i =
-    ap (λ (part : Bool). (not (eqb (markOr 0 marks i) 1) or part) and zeroFirst marks i) (sym (gives-is marks i))
+or-none : (a : Bool) → a or false ≡ a
+unfolding _or_
+or-none true = refl
+or-none false = refl
 
-pub first-none : (marks : List ℕ) → zeroFirst marks 0 ≡ true
-unfolding zeroFirst startsWithZero stack
-first-none marks = refl
+or-moved : (a b c : Bool) → a or (b or c) ≡ b or (a or c)
+unfolding _or_
+or-moved true true c = refl
+or-moved true false c = refl
+or-moved false b c = refl
 
-pub first-more :
-    (marks : List ℕ) (i : ℕ) (part : Bool) → zeroFirst marks i ≡ true → part ≡ givesPartIn marks i →
-    oneDenied (markOr 0 marks i) part ≡ false → zeroFirst marks (i + 1) ≡ true
-unfolding oneDenied allowed-at
-first-more marks i part h e d =
-    holds-more
-    (zeroFirst marks)
-    (allowed-at marks)
-    (first-step marks)
-    i
-    h
-    (ap (λ (p : Bool). not (eqb (markOr 0 marks i) 1) or p) (sym e) ∙ denied-passes part (eqb (markOr 0 marks i) 1) d)
+-- mark 1 may come first or not
+module _ (first : Bool) where
+  -- mark 1 is allowed at an index
+  unfoldable pub oneAt : List ℕ → ℕ → Bool
+  oneAt marks i = first or givesPartIn marks i
 
-pub first-fails :
-    (marks : List ℕ) (i end : ℕ) (part : Bool) → i < end → part ≡ givesPartIn marks i →
-    oneDenied (markOr 0 marks i) part ≡ true → zeroFirst marks end ≡ false
-unfolding oneDenied allowed-at
-first-fails marks i end part b e d =
-    falls-behind
-    (zeroFirst marks)
-    (allowed-at marks)
-    (first-step marks)
-    i
-    end
-    b
-    (ap (λ (p : Bool). not (eqb (markOr 0 marks i) 1) or p) (sym e) ∙ denied-fails part (eqb (markOr 0 marks i) 1) d)
+  -- a mark is allowed
+  allowed-at : List ℕ → ℕ → Bool
+  allowed-at marks i = not (eqb (markOr 0 marks i) 1) or oneAt marks i
 
--- some mark is 0 or 1, with one mark more
-pub part-more :
-    (marks : List ℕ) (i : ℕ) (part : Bool) → part ≡ givesPartIn marks i →
-    isPart (markOr 0 marks i) or part ≡ givesPartIn marks (i + 1)
-part-more marks i part e =
-    ap (isPart (markOr 0 marks i) or_) e ∙ sym (gives-more marks i)
+  ones-step : (marks : List ℕ) (i : ℕ) → onesLegal first marks (suc i) ≡ allowed-at marks i and onesLegal first marks i
+  unfolding onesLegal onesAllowed stack oneAllowed allowed-at oneAt
+  ones-step marks i =
+      ap (λ (part : Bool). (not (eqb (markOr 0 marks i) 1) or (first or part)) and onesLegal first marks i) (sym (gives-is marks i))
+
+  pub ones-none : (marks : List ℕ) → onesLegal first marks 0 ≡ true
+  unfolding onesLegal onesAllowed stack
+  ones-none marks = refl
+
+  pub ones-more :
+      (marks : List ℕ) (i : ℕ) (allowed : Bool) → onesLegal first marks i ≡ true → allowed ≡ oneAt marks i →
+      oneDenied (markOr 0 marks i) allowed ≡ false → onesLegal first marks (i + 1) ≡ true
+  unfolding oneDenied allowed-at
+  ones-more marks i allowed h e d =
+      holds-more
+      (onesLegal first marks)
+      (allowed-at marks)
+      (ones-step marks)
+      i
+      h
+      (ap (λ (p : Bool). not (eqb (markOr 0 marks i) 1) or p) (sym e) ∙ denied-passes allowed (eqb (markOr 0 marks i) 1) d)
+
+  pub ones-fail :
+      (marks : List ℕ) (i end : ℕ) (allowed : Bool) → i < end → allowed ≡ oneAt marks i →
+      oneDenied (markOr 0 marks i) allowed ≡ true → onesLegal first marks end ≡ false
+  unfolding oneDenied allowed-at
+  ones-fail marks i end allowed b e d =
+      falls-behind
+      (onesLegal first marks)
+      (allowed-at marks)
+      (ones-step marks)
+      i
+      end
+      b
+      (ap (λ (p : Bool). not (eqb (markOr 0 marks i) 1) or p) (sym e) ∙ denied-fails allowed (eqb (markOr 0 marks i) 1) d)
+
+  -- where mark 1 is allowed at the first index, and behind one mark more
+  pub one-at-first : (marks : List ℕ) → first ≡ oneAt marks 0
+  unfolding oneAt
+  one-at-first marks = sym (ap (λ (part : Bool). first or part) (gives-none marks) ∙ or-none first)
+
+  pub one-at-more :
+      (marks : List ℕ) (i : ℕ) (allowed : Bool) → allowed ≡ oneAt marks i →
+      isPart (markOr 0 marks i) or allowed ≡ oneAt marks (i + 1)
+  unfolding oneAt
+  one-at-more marks i allowed e =
+      ap (λ (x : Bool). isPart (markOr 0 marks i) or x) e
+      ∙ or-moved (isPart (markOr 0 marks i)) first (givesPartIn marks i)
+      ∙ ap (λ (part : Bool). first or part) (sym (gives-more marks i))

@@ -4,7 +4,7 @@ use mathlib.Core.Bool.{Bool, true, false, not}
 use mathlib.Core.List.{List, [], _∷_}
 use mathlib.Core.Option.{some}
 use mathlib.Core.Path.{_≡_, refl, sym, _∙_, ap}
-use Prim.Native.Nat.{ℕ, zero, suc, _+_, _*_, _-_, _≤_}
+use Prim.Native.Nat.{ℕ, zero, suc, _+_, _-_, _≤_}
 use native.Mathlib.Omega.{arith}
 use lib.Dec.{eqb, leb}
 use lib.ListN.{length, getD}
@@ -14,12 +14,13 @@ use Rattle.counting.proofs.Joined.{no-way, clash, and-left, and-right, pick-tru
 use Rattle.trail.specs.declared.Trail.{Trail}
 use Rattle.trail.specs.Trail.{markOr}
 use Rattle.model.specs.declared.Search.{Search}
-use Rattle.model.specs.Limits.{capLimit, triesLimit}
+use Rattle.model.specs.Limits.{triesLimit}
+use Rattle.model.specs.Split.{capsOutside}
 use Rattle.model.specs.Walk.{Rules, cuts, isEmpty}
-use Rattle.model.specs.State.{stack, marksIn, bestIn, recordOf, areMarks, startsWithZero, beginningsValid, trailFine, bestFine, stateFine}
+use Rattle.model.specs.State.{stack, marksIn, bestIn, capsIn, recordOf, areMarks, onesAllowed, beginningsValid, trailFine, bestFine, stateFine}
 use Rattle.model.proofs.Order.SplitMarks.{stack-length}
 use Rattle.marking.proofs.Trails.{marks-before}
-use Rattle.state.specs.Legal.{marksLegal, zeroFirst, cutsIn}
+use Rattle.state.specs.Legal.{marksLegal, onesLegal, cutsIn}
 use Rattle.state.specs.StateBy.{trailBy, fullBy, bestBy, numbersBy}
 
 -- the marks of an array before an index that it has
@@ -31,9 +32,9 @@ legal-is : (trail : Trail) → trail .len ≤ 240 → marksLegal (trail .marks) 
 unfolding marksLegal
 legal-is trail b = ap areMarks (marks-are trail b)
 
-zero-is : (trail : Trail) → trail .len ≤ 240 → zeroFirst (trail .marks) (trail .len) ≡ startsWithZero (marksIn trail)
-unfolding zeroFirst
-zero-is trail b = ap startsWithZero (marks-are trail b)
+ones-are : (first : Bool) (trail : Trail) → trail .len ≤ 240 → onesLegal first (trail .marks) (trail .len) ≡ onesAllowed first (marksIn trail)
+unfolding onesLegal
+ones-are first trail b = ap (onesAllowed first) (marks-are trail b)
 
 pub cuts-is : (trail : Trail) → trail .len ≤ 240 → cutsIn (trail .marks) (trail .len) ≡ cuts (marksIn trail)
 unfolding cutsIn
@@ -90,27 +91,27 @@ moved false v l z v′ l′ z′ h = refl
 pub trail-is :
     (R : Rules) (complete : Bool) (trail : Trail) (valid : Bool) → R .k ≤ 240 →
     (1 ≤ trail .len → trail .len ≤ R .k → valid ≡ beginningsValid R (marksIn trail)) →
-    trailBy complete trail (R .k) valid ≡ trailFine R complete (marksIn trail)
+    trailBy complete trail (R .k) valid (R .oneFirst) ≡ trailFine R complete (marksIn trail)
 unfolding trailBy trailFine
 trail-is R true trail valid small v = sym (marks-empty trail)
 trail-is R false trail valid small v =
-    ap (λ (x : Bool). x and leb (trail .len) (R .k) and valid and marksLegal (trail .marks) (trail .len) and zeroFirst (trail .marks) (trail .len)) (ap not (sym (marks-empty trail)))
-    ∙ ap (λ (l : ℕ). not (isEmpty (marksIn trail)) and leb l (R .k) and valid and marksLegal (trail .marks) (trail .len) and zeroFirst (trail .marks) (trail .len)) (sym (marks-length trail))
+    ap (λ (x : Bool). x and leb (trail .len) (R .k) and valid and marksLegal (trail .marks) (trail .len) and onesLegal (R .oneFirst) (trail .marks) (trail .len)) (ap not (sym (marks-empty trail)))
+    ∙ ap (λ (l : ℕ). not (isEmpty (marksIn trail)) and leb l (R .k) and valid and marksLegal (trail .marks) (trail .len) and onesLegal (R .oneFirst) (trail .marks) (trail .len)) (sym (marks-length trail))
     ∙ moved
     (not (isEmpty (marksIn trail)) and leb (length (marksIn trail)) (R .k))
     valid
     (marksLegal (trail .marks) (trail .len))
-    (zeroFirst (trail .marks) (trail .len))
+    (onesLegal (R .oneFirst) (trail .marks) (trail .len))
     (beginningsValid R (marksIn trail))
     (areMarks (marksIn trail))
-    (startsWithZero (marksIn trail))
+    (onesAllowed (R .oneFirst) (marksIn trail))
     (λ x.
     let some = and-left (not (isEmpty (marksIn trail))) (leb (length (marksIn trail)) (R .k)) x in
     let short = leb-true (length (marksIn trail)) (R .k) (and-right (not (isEmpty (marksIn trail))) (leb (length (marksIn trail)) (R .k)) x) in
     let within : trail .len ≤ R .k = omega (arith, marks-length trail) in (
       v (some-marks trail some) within,
       legal-is trail (omega arith),
-      zero-is trail (omega arith),
+      ones-are (R .oneFirst) trail (omega arith),
     ))
 
 full-is :
@@ -170,10 +171,13 @@ unfolding numbersBy stateFine recordOf
 state-is R m n nonzeros s trail best a b =
     ap
     (λ (x : Bool). x and leb (s .tries) triesLimit and trail and best)
-    (caps-turned (eqb (s .m) m and eqb (s .n) n and eqb (s .nonzeros) nonzeros) (leb (s .cap) capLimit) (leb nonzeros (2 * s .cap)))
+    (caps-turned
+    (eqb (s .m) m and eqb (s .n) n and eqb (s .nonzeros) nonzeros)
+    (not (capsOutside (capsIn s)))
+    (leb nonzeros (s .cap0 + s .cap1)))
     ∙ ap
-    (λ (x : Bool). eqb (s .m) m and eqb (s .n) n and eqb (s .nonzeros) nonzeros and leb nonzeros (2 * s .cap) and leb (s .cap) capLimit and leb (s .tries) triesLimit and x and best)
+    (λ (x : Bool). eqb (s .m) m and eqb (s .n) n and eqb (s .nonzeros) nonzeros and leb nonzeros (s .cap0 + s .cap1) and not (capsOutside (capsIn s)) and leb (s .tries) triesLimit and x and best)
     a
     ∙ ap
-    (λ (x : Bool). eqb (s .m) m and eqb (s .n) n and eqb (s .nonzeros) nonzeros and leb nonzeros (2 * s .cap) and leb (s .cap) capLimit and leb (s .tries) triesLimit and trailFine R (s .complete) (marksIn (s .trail)) and x)
+    (λ (x : Bool). eqb (s .m) m and eqb (s .n) n and eqb (s .nonzeros) nonzeros and leb nonzeros (s .cap0 + s .cap1) and not (capsOutside (capsIn s)) and leb (s .tries) triesLimit and trailFine R (s .complete) (marksIn (s .trail)) and x)
     b

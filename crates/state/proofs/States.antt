@@ -1,18 +1,21 @@
 -- Laws of the state check on the struct of a search.
 -- Assumes nothing.
-use mathlib.Core.Path.{_≡_, sym}
-use Prim.Native.Nat.{ℕ, _*_, _≤_}
+use mathlib.Core.Bool.{false, not}
+use mathlib.Core.Path.{_≡_, sym, ap}
+use Prim.Native.Nat.{ℕ, _+_, _≤_}
 use lib.Dec.{leb}
 use borrow.Author.Tests.{eq-eqb, le-leb}
 use Rattle.counting.proofs.Joined.{and-intro, and-passed}
 use Rattle.model.specs.declared.Search.{Search}
-use Rattle.model.specs.Limits.{capLimit, triesLimit}
+use Rattle.model.specs.Limits.{triesLimit}
+use Rattle.model.specs.Split.{capsOutside}
+use Rattle.model.specs.State.{capsIn}
 use Rattle.state.specs.StateBy.{numbersBy}
 
 -- the last of the tests of numbers
 pub numbers-last :
-    (s : Search) (m n nonzeros : ℕ) → s .m ≡ m → s .n ≡ n → s .nonzeros ≡ nonzeros → s .cap ≤ capLimit →
-    nonzeros ≤ 2 * s .cap → leb (s .tries) triesLimit ≡ numbersBy s m n nonzeros
+    (s : Search) (m n nonzeros : ℕ) → s .m ≡ m → s .n ≡ n → s .nonzeros ≡ nonzeros → capsOutside (capsIn s) ≡ false →
+    nonzeros ≤ s .cap0 + s .cap1 → leb (s .tries) triesLimit ≡ numbersBy s m n nonzeros
 unfolding numbersBy
 numbers-last s m n nonzeros a b c d e =
     sym
@@ -21,5 +24,5 @@ numbers-last s m n nonzeros a b c d e =
     (and-intro
     (and-intro
     (and-intro (and-intro (eq-eqb (s .m) m a) (eq-eqb (s .n) n b)) (eq-eqb (s .nonzeros) nonzeros c))
-    (le-leb (s .cap) capLimit d))
-    (le-leb nonzeros (2 * s .cap) e)))
+    (ap not d))
+    (le-leb nonzeros (s .cap0 + s .cap1) e)))

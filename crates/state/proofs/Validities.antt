@@ -11,15 +11,17 @@ use Rattle.counting.proofs.Joined.{both-ways, and-intro, and-left}
 use Rattle.trail.specs.declared.Trail.{Trail}
 use Rattle.trail.specs.Trail.{dropped}
 use Rattle.trail.proofs.Methods.{dropped-length}
+use Rattle.model.specs.declared.Caps.{Caps}
 use Rattle.model.specs.declared.Search.{Search}
 use Rattle.model.specs.Pattern.{Pattern, Inside, patternOf}
+use Rattle.model.specs.Split.{unequal}
 use Rattle.model.specs.Marking.{marking, valid}
 use Rattle.model.specs.Walk.{rulesOf}
-use Rattle.model.specs.State.{marksIn, bestIn, recordOf, arrayOf, trailOf, beginningsValid, trailFine, bestFine, stateFine}
+use Rattle.model.specs.State.{marksIn, bestIn, capsIn, recordOf, arrayOf, trailOf, beginningsValid, trailFine, bestFine, stateFine}
 use Rattle.model.proofs.Walk.Sound.{whole, longer}
 use Rattle.model.proofs.Bound.Extended.{valid-begins}
 use Rattle.model.proofs.Order.Marks.{begins-extends}
-use Rattle.model.proofs.Theorems.OfList.{rules-k, rules-valid}
+use Rattle.model.proofs.Theorems.OfList.{rules-k, rules-first, rules-valid}
 use Rattle.marking.proofs.Trails.{marks-dropped}
 use Rattle.bound.specs.declared.Evaluation.{Evaluation}
 use Rattle.bound.specs.Evaluated.{Listed, Placed, Evaluates}
@@ -30,49 +32,49 @@ use Rattle.state.proofs.Normal.{cleared-is}
 use Rattle.state.proofs.StateLaws.{marks-length, trail-is, best-is, state-is}
 
 -- a beginning of a valid marking is valid
-inherits : (P : Pattern) (cap : ℕ) (x : ℕ) (τ : List ℕ) → Inside P → rulesOf P cap .valid (x ∷ τ) ≡ true → rulesOf P cap .valid τ ≡ true
+inherits : (P : Pattern) (caps : Caps) (x : ℕ) (τ : List ℕ) → Inside P → rulesOf P caps .valid (x ∷ τ) ≡ true → rulesOf P caps .valid τ ≡ true
 unfolding rulesOf
-inherits P cap x τ i h = valid-begins P cap (marking P τ) (marking P (x ∷ τ)) i (begins-extends P (longer whole)) h
+inherits P caps x τ i h = valid-begins P caps (marking P τ) (marking P (x ∷ τ)) i (begins-extends P (longer whole)) h
 
 -- all beginnings of a valid marking are valid
-all-valid : (P : Pattern) (cap : ℕ) (τ : List ℕ) → Inside P → rulesOf P cap .valid τ ≡ true → beginningsValid (rulesOf P cap) τ ≡ true
+all-valid : (P : Pattern) (caps : Caps) (τ : List ℕ) → Inside P → rulesOf P caps .valid τ ≡ true → beginningsValid (rulesOf P caps) τ ≡ true
 unfolding beginningsValid
-all-valid P cap [] i h = refl
-all-valid P cap (x ∷ τ) i h = let v = inherits P cap x τ i h in and-intro v (all-valid P cap τ i v)
+all-valid P caps [] i h = refl
+all-valid P caps (x ∷ τ) i h = let v = inherits P caps x τ i h in and-intro v (all-valid P caps τ i v)
 
 -- so the longest proper beginning speaks for all
 longest-speaks :
-    (P : Pattern) (cap x : ℕ) (τ : List ℕ) → Inside P →
-    rulesOf P cap .valid τ ≡ beginningsValid (rulesOf P cap) (x ∷ τ)
+    (P : Pattern) (caps : Caps) (x : ℕ) (τ : List ℕ) → Inside P →
+    rulesOf P caps .valid τ ≡ beginningsValid (rulesOf P caps) (x ∷ τ)
 unfolding beginningsValid
-longest-speaks P cap x τ i =
+longest-speaks P caps x τ i =
     both-ways
-    (rulesOf P cap .valid τ)
-    (rulesOf P cap .valid τ and beginningsValid (rulesOf P cap) τ)
-    (λ h. and-intro h (all-valid P cap τ i h))
-    (λ h. and-left (rulesOf P cap .valid τ) (beginningsValid (rulesOf P cap) τ) h)
+    (rulesOf P caps .valid τ)
+    (rulesOf P caps .valid τ and beginningsValid (rulesOf P caps) τ)
+    (λ h. and-intro h (all-valid P caps τ i h))
+    (λ h. and-left (rulesOf P caps .valid τ) (beginningsValid (rulesOf P caps) τ) h)
 
 -- of a trail too, without its last mark
 pub trail-speaks :
-    (P : Pattern) (cap : ℕ) (trail : Trail) (d : ℕ) (v : Bool) → Inside P → trail .len ≡ suc d → d < 240 →
-    v ≡ valid P cap (marking P (marksIn (dropped trail))) → v ≡ beginningsValid (rulesOf P cap) (marksIn trail)
+    (P : Pattern) (caps : Caps) (trail : Trail) (d : ℕ) (v : Bool) → Inside P → trail .len ≡ suc d → d < 240 →
+    v ≡ valid P caps (marking P (marksIn (dropped trail))) → v ≡ beginningsValid (rulesOf P caps) (marksIn trail)
 unfolding rulesOf
-trail-speaks P cap trail d v i long b e =
+trail-speaks P caps trail d v i long b e =
     e
-    ∙ longest-speaks P cap (getD (trail .marks) d 0) (marksIn (dropped trail)) i
-    ∙ ap (beginningsValid (rulesOf P cap)) (sym (marks-dropped trail d long b))
+    ∙ longest-speaks P caps (getD (trail .marks) d 0) (marksIn (dropped trail)) i
+    ∙ ap (beginningsValid (rulesOf P caps)) (sym (marks-dropped trail d long b))
 
 -- the evaluation of a cleared trail
 pub valid-cleared :
-    (m n nonzeros : ℕ) (list places starts : List ℕ) (cap : ℕ) (trail kept : Trail) (j : Evaluation) →
+    (m n nonzeros : ℕ) (list places starts : List ℕ) (caps : Caps) (trail kept : Trail) (j : Evaluation) →
     kept ≡ clearedTo trail →
     (Listed m n nonzeros list starts → Placed (patternOf m n nonzeros list) places →
     (τ : List ℕ) → length τ ≤ 240 → kept .marks ≡ arrayOf τ → kept .len ≡ length τ →
-    Evaluates (patternOf m n nonzeros list) cap (marking (patternOf m n nonzeros list) τ) j) →
+    Evaluates (patternOf m n nonzeros list) caps (marking (patternOf m n nonzeros list) τ) j) →
     Listed m n nonzeros list starts → Placed (patternOf m n nonzeros list) places → trail .len ≤ 240 →
-    j .valid ≡ valid (patternOf m n nonzeros list) cap (marking (patternOf m n nonzeros list) (marksIn trail))
+    j .valid ≡ valid (patternOf m n nonzeros list) caps (marking (patternOf m n nonzeros list) (marksIn trail))
 unfolding trailOf
-valid-cleared m n nonzeros list places starts cap trail kept j e judged listed placed b =
+valid-cleared m n nonzeros list places starts caps trail kept j e judged listed placed b =
     let d : kept ≡ trailOf (marksIn trail) = e ∙ cleared-is trail b in
     judged
     listed
@@ -88,12 +90,12 @@ pub record Checked (m n nonzeros : ℕ) (list places starts : List ℕ) (k : ℕ
   pub short : beginning ≡ dropped (s .trail)
   pub begins-is :
       Listed m n nonzeros list starts → Placed (patternOf m n nonzeros list) places → beginning .len ≤ 240 →
-      begins ≡ valid (patternOf m n nonzeros list) (s .cap) (marking (patternOf m n nonzeros list) (marksIn beginning))
+      begins ≡ valid (patternOf m n nonzeros list) (capsIn s) (marking (patternOf m n nonzeros list) (marksIn beginning))
   pub full-is :
       Listed m n nonzeros list starts → Placed (patternOf m n nonzeros list) places → s .best .len ≤ 240 →
-      full ≡ valid (patternOf m n nonzeros list) (s .cap) (marking (patternOf m n nonzeros list) (marksIn (s .best)))
+      full ≡ valid (patternOf m n nonzeros list) (capsIn s) (marking (patternOf m n nonzeros list) (marksIn (s .best)))
   pub numbers-are : numbers ≡ numbersBy s m n nonzeros
-  pub trail-test : trail ≡ trailBy (s .complete) (s .trail) k begins
+  pub trail-test : trail ≡ trailBy (s .complete) (s .trail) k begins (unequal (capsIn s))
   pub best-test : best ≡ bestBy s k full
 
 -- it is the state check of document 01
@@ -101,26 +103,27 @@ pub checked-is :
     (m n nonzeros : ℕ) (list places starts : List ℕ) (k : ℕ) (s : Search) (beginning : Trail) (begins full numbers trail best : Bool) →
     Checked m n nonzeros list places starts k s beginning begins full numbers trail best →
     Ready m n nonzeros list places starts k →
-    numbers and trail and best ≡ stateFine (rulesOf (patternOf m n nonzeros list) (s .cap)) m n nonzeros (recordOf s)
+    numbers and trail and best ≡ stateFine (rulesOf (patternOf m n nonzeros list) (capsIn s)) m n nonzeros (recordOf s)
 checked-is m n nonzeros list places starts k s beginning begins full numbers trail best c ready =
     ap (λ (x : Bool). x and trail and best) (c .numbers-are)
-    ∙ state-is (rulesOf P (s .cap)) m n nonzeros s trail best trail-fine best-fine
+    ∙ state-is (rulesOf P (capsIn s)) m n nonzeros s trail best trail-fine best-fine
   where
     P : Pattern
     P = patternOf m n nonzeros list
 
-    k-is : rulesOf P (s .cap) .k ≡ k
-    k-is = rules-k P (s .cap) ∙ sym (ready .total)
+    k-is : rulesOf P (capsIn s) .k ≡ k
+    k-is = rules-k P (capsIn s) ∙ sym (ready .total)
 
-    few : rulesOf P (s .cap) .k ≤ 240
+    few : rulesOf P (capsIn s) .k ≤ 240
     few = omega (arith, k-is, ready .few)
 
-    trail-fine : trail ≡ trailFine (rulesOf P (s .cap)) (s .complete) (marksIn (s .trail))
+    trail-fine : trail ≡ trailFine (rulesOf P (capsIn s)) (s .complete) (marksIn (s .trail))
     trail-fine =
         c .trail-test
-        ∙ ap (λ (j : ℕ). trailBy (s .complete) (s .trail) j begins) (sym k-is)
+        ∙ ap (λ (j : ℕ). trailBy (s .complete) (s .trail) j begins (unequal (capsIn s))) (sym k-is)
+        ∙ ap (λ (first : Bool). trailBy (s .complete) (s .trail) (rulesOf P (capsIn s) .k) begins first) (sym (rules-first P (capsIn s)))
         ∙ trail-is
-        (rulesOf P (s .cap))
+        (rulesOf P (capsIn s))
         (s .complete)
         (s .trail)
         begins
@@ -131,7 +134,7 @@ checked-is m n nonzeros list places starts k s beginning begins full numbers tra
         let inside : d < 240 = omega (arith, few) in
         trail-speaks
         P
-        (s .cap)
+        (capsIn s)
         (s .trail)
         d
         begins
@@ -139,15 +142,15 @@ checked-is m n nonzeros list places starts k s beginning begins full numbers tra
         long
         inside
         (c .begins-is (ready .listed) (ready .placed) (omega (arith, ap (λ (t : Trail). t .len) (c .short), dropped-length (s .trail) d long inside))
-        ∙ ap (λ (t : Trail). valid P (s .cap) (marking P (marksIn t))) (c .short)))
+        ∙ ap (λ (t : Trail). valid P (capsIn s) (marking P (marksIn t))) (c .short)))
 
-    best-fine : best ≡ bestFine (rulesOf P (s .cap)) (bestIn (s .found) (s .best)) (s .«best_count») (s .complete)
+    best-fine : best ≡ bestFine (rulesOf P (capsIn s)) (bestIn (s .found) (s .best)) (s .«best_count») (s .complete)
     best-fine =
         c .best-test
         ∙ ap (λ (j : ℕ). bestBy s j full) (sym k-is)
         ∙ best-is
-        (rulesOf P (s .cap))
+        (rulesOf P (capsIn s))
         s
         full
         few
-        (λ found long. c .full-is (ready .listed) (ready .placed) (omega (arith, long, few)) ∙ rules-valid P (s .cap) (marksIn (s .best)))
+        (λ found long. c .full-is (ready .listed) (ready .placed) (omega (arith, long, few)) ∙ rules-valid P (capsIn s) (marksIn (s .best)))

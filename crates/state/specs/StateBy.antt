@@ -1,23 +1,25 @@
 -- The state check on the struct of a search, by the validity of its markings.
 -- Assumes nothing.
 use mathlib.Core.Bool.{Bool, true, false, not}
-use Prim.Native.Nat.{ℕ, _+_, _*_}
+use Prim.Native.Nat.{ℕ, _+_}
 use lib.Dec.{eqb, leb}
 use Rattle.counting.specs.Tests.{_and_, pick}
 use Rattle.trail.specs.declared.Trail.{Trail}
 use Rattle.model.specs.declared.Search.{Search}
-use Rattle.model.specs.Limits.{capLimit, triesLimit}
-use Rattle.state.specs.Legal.{marksLegal, zeroFirst, cutsIn}
+use Rattle.model.specs.Limits.{triesLimit}
+use Rattle.model.specs.Split.{capsOutside}
+use Rattle.model.specs.State.{capsIn}
+use Rattle.state.specs.Legal.{marksLegal, onesLegal, cutsIn}
 
--- the trail, where its longest proper beginning is valid or not
-unfoldable pub trailBy : Bool → Trail → ℕ → Bool → Bool
-trailBy true trail k valid = eqb (trail .len) 0
-trailBy false trail k valid =
+-- the trail, where its longest proper beginning is valid or not, and mark 1 may come first or not
+unfoldable pub trailBy : Bool → Trail → ℕ → Bool → Bool → Bool
+trailBy true trail k valid first = eqb (trail .len) 0
+trailBy false trail k valid first =
     not (eqb (trail .len) 0)
     and leb (trail .len) k
     and valid
     and marksLegal (trail .marks) (trail .len)
-    and zeroFirst (trail .marks) (trail .len)
+    and onesLegal first (trail .marks) (trail .len)
 
 -- a best marking, where it is valid or not
 unfoldable pub fullBy : Trail → ℕ → Bool → ℕ → Bool
@@ -32,12 +34,12 @@ unfoldable pub bestBy : Search → ℕ → Bool → Bool
 bestBy s k valid =
     pick (s .found) (fullBy (s .best) k valid (s .«best_count»)) (not (s .complete) and eqb (s .«best_count») (k + 1))
 
--- m, n and N are the list's, and cap and tries are in range
+-- m, n and N are the list's, and caps and tries are in range
 unfoldable pub numbersBy : Search → ℕ → ℕ → ℕ → Bool
 numbersBy s m n nonzeros =
     eqb (s .m) m
     and eqb (s .n) n
     and eqb (s .nonzeros) nonzeros
-    and leb (s .cap) capLimit
-    and leb nonzeros (2 * s .cap)
+    and not (capsOutside (capsIn s))
+    and leb nonzeros (s .cap0 + s .cap1)
     and leb (s .tries) triesLimit

@@ -5,7 +5,9 @@ use crate::fine::trail_fine;
 use crate::holding::cleared;
 use bound::evaluating::evaluate;
 use counting::joining::both_of;
+use model::Caps;
 use model::Search;
+use pattern::cap::unequal_caps;
 use pattern::reading::wide16;
 use trail::Trail;
 ghost use mathlib.Core.Path.{_≡_};
@@ -13,7 +15,7 @@ ghost use Prim.Native.Nat.{_≤_};
 ghost use Rattle.model.specs.Pattern.{patternOf};
 ghost use Rattle.model.specs.Walk.{rulesOf};
 ghost use Rattle.model.specs.Marking.{marking, valid};
-ghost use Rattle.model.specs.State.{marksIn, recordOf, stateFine};
+ghost use Rattle.model.specs.State.{marksIn, capsIn, recordOf, stateFine};
 ghost use Rattle.bound.specs.Evaluated.{Listed, Placed};
 ghost use Rattle.state.specs.Ready.{Ready};
 
@@ -24,18 +26,18 @@ fn valid_of(
     n: u8,
     nonzeros: u16,
     list: &[u8],
-    cap: u64,
+    caps: Caps,
     places: &[u16; 512],
     starts: &[u16; 257],
 ) -> bool
     ensures { λ v. ⌜ (Listed m n nonzeros (now (list .entry)) (now (starts .entry)) →
         Placed (patternOf m n nonzeros (now (list .entry))) (now (places .entry)) → trail .len ≤ 240 →
-        v ≡ valid (patternOf m n nonzeros (now (list .entry))) cap (marking (patternOf m n nonzeros (now (list .entry))) (marksIn trail))) ⌝ }
+        v ≡ valid (patternOf m n nonzeros (now (list .entry))) caps (marking (patternOf m n nonzeros (now (list .entry))) (marksIn trail))) ⌝ }
 {
     let kept = cleared(trail);
     let marks = kept.marks;
     let len = kept.len;
-    let judged = evaluate(m, n, nonzeros, list, cap, places, starts, &marks, len);
+    let judged = evaluate(m, n, nonzeros, list, caps, places, starts, &marks, len);
     judged.valid
 }
 
@@ -51,15 +53,24 @@ pub fn state_fine(
     k: u16,
 ) -> bool
     ensures { λ v. ⌜ (Ready m n nonzeros (now (list .entry)) (now (places .entry)) (now (starts .entry)) k →
-        v ≡ stateFine (rulesOf (patternOf m n nonzeros (now (list .entry))) (search .cap)) m n nonzeros (recordOf search)) ⌝ }
+        v ≡ stateFine (rulesOf (patternOf m n nonzeros (now (list .entry))) (capsIn search)) m n nonzeros (recordOf search)) ⌝ }
 {
-    let cap = search.cap;
+    let caps = Caps {
+        cap0: search.cap0,
+        cap1: search.cap1,
+    };
     let whole = search.trail;
     let beginning = whole.drop();
-    let begins = valid_of(beginning, m, n, nonzeros, list, cap, places, starts);
-    let full = valid_of(search.best, m, n, nonzeros, list, cap, places, starts);
+    let begins = valid_of(beginning, m, n, nonzeros, list, caps, places, starts);
+    let full = valid_of(search.best, m, n, nonzeros, list, caps, places, starts);
     let numbers = numbers_fine(search, m as u64, n as u64, nonzeros as u64);
-    let trail = trail_fine(whole, search.complete, wide16(k), begins);
+    let trail = trail_fine(
+        whole,
+        search.complete,
+        wide16(k),
+        begins,
+        unequal_caps(caps),
+    );
     let best = best_fine(search, k, full);
     both_of(both_of(numbers, trail), best)
 }

@@ -1,15 +1,17 @@
 // The state check of refusal 14, once it is known which markings are valid.
 use crate::legal::are_marks;
 use crate::legal::cuts_before;
-use crate::legal::starts_with_zero;
+use crate::legal::ones_allowed;
+use model::Caps;
 use model::Search;
+use pattern::cap::caps_outside;
 use trail::Trail;
 ghost use mathlib.Core.Path.{_≡_};
 ghost use Rattle.state.specs.StateBy.{trailBy, fullBy, bestBy, numbersBy};
 
 // The trail is empty if the search is complete; else it has 1 to k legal marks, and its longest proper beginning is valid.
-pub(crate) fn trail_fine(trail: Trail, complete: bool, k: usize, valid: bool) -> bool
-    ensures { λ r. ⌜ r ≡ trailBy complete trail k valid ⌝ }
+pub(crate) fn trail_fine(trail: Trail, complete: bool, k: usize, valid: bool, first: bool) -> bool
+    ensures { λ r. ⌜ r ≡ trailBy complete trail k valid first ⌝ }
 {
     let len = trail.len;
     let marks = trail.marks;
@@ -24,7 +26,7 @@ pub(crate) fn trail_fine(trail: Trail, complete: bool, k: usize, valid: bool) ->
     }
     if valid {
         if are_marks(&marks, len) {
-            return starts_with_zero(&marks, len);
+            return ones_allowed(&marks, len, first);
         }
     }
     false
@@ -61,14 +63,17 @@ pub(crate) fn best_fine(search: Search, k: u16, valid: bool) -> bool
     count == (k as u64) + 1
 }
 
-// The numbers of a state: m, n and N are the list's, N is at most 2 × cap, and cap and tries are in range.
+// The numbers of a state: m, n and N are the list's, N is at most cap 0 + cap 1, and caps and tries are in range.
 pub(crate) fn numbers_fine(search: Search, m: u64, n: u64, nonzeros: u64) -> bool
     ensures { λ r. ⌜ r ≡ numbersBy search m n nonzeros ⌝ }
 {
     let rows = search.m;
     let columns = search.n;
     let size = search.nonzeros;
-    let cap = search.cap;
+    let caps = Caps {
+        cap0: search.cap0,
+        cap1: search.cap1,
+    };
     let tries = search.tries;
     if rows != m {
         return false;
@@ -79,10 +84,10 @@ pub(crate) fn numbers_fine(search: Search, m: u64, n: u64, nonzeros: u64) -> boo
     if size != nonzeros {
         return false;
     }
-    if 2000 < cap {
+    if caps_outside(caps) {
         return false;
     }
-    if 2 * cap < nonzeros {
+    if caps.cap0 + caps.cap1 < nonzeros {
         return false;
     }
     tries <= 1_000_000_000_000_000

@@ -1,4 +1,5 @@
 // The record of a search in its struct: fresh, and with 0 in every mark past a marking's length.
+use model::Caps;
 use model::Search;
 use pattern::reading::long16;
 use trail::Trail;
@@ -65,8 +66,8 @@ fn best_or_none(found: bool, best: Trail) -> Trail
 }
 
 // A search of a pattern without nonzeros, which is complete.
-fn blank(m: u64, n: u64, nonzeros: u64, cap: u64) -> Search
-    ensures { λ r. ⌜ r ≡ searchOf (fresh m n nonzeros cap 0) ⌝ }
+fn blank(m: u64, n: u64, nonzeros: u64, caps: Caps) -> Search
+    ensures { λ r. ⌜ r ≡ searchOf (fresh m n nonzeros caps 0) ⌝ }
 {
     let best = no_trail();
     let trail = no_trail();
@@ -74,7 +75,8 @@ fn blank(m: u64, n: u64, nonzeros: u64, cap: u64) -> Search
         m,
         n,
         nonzeros,
-        cap,
+        cap0: caps.cap0,
+        cap1: caps.cap1,
         tries: 0,
         best_count: 0,
         found: true,
@@ -93,8 +95,8 @@ fn first_trail() -> Trail
 }
 
 // A fresh search of k + 1 lines with nonzeros.
-fn begun(m: u64, n: u64, nonzeros: u64, cap: u64, k: u16) -> Search
-    ensures { λ r. ⌜ r ≡ searchOf (fresh m n nonzeros cap (suc k)) ⌝ }
+fn begun(m: u64, n: u64, nonzeros: u64, caps: Caps, k: u16) -> Search
+    ensures { λ r. ⌜ r ≡ searchOf (fresh m n nonzeros caps (suc k)) ⌝ }
 {
     let best = no_trail();
     let trail = first_trail();
@@ -103,7 +105,8 @@ fn begun(m: u64, n: u64, nonzeros: u64, cap: u64, k: u16) -> Search
         m,
         n,
         nonzeros,
-        cap,
+        cap0: caps.cap0,
+        cap1: caps.cap1,
         tries: 0,
         best_count: count,
         found: false,
@@ -114,13 +117,13 @@ fn begun(m: u64, n: u64, nonzeros: u64, cap: u64, k: u16) -> Search
 }
 
 // A fresh search of k lines with nonzeros.
-pub fn fresh_search(m: u64, n: u64, nonzeros: u64, cap: u64, k: u16) -> Search
-    ensures { λ r. ⌜ r ≡ searchOf (fresh m n nonzeros cap k) ⌝ }
+pub fn fresh_search(m: u64, n: u64, nonzeros: u64, caps: Caps, k: u16) -> Search
+    ensures { λ r. ⌜ r ≡ searchOf (fresh m n nonzeros caps k) ⌝ }
 {
     if k == 0 {
-        return blank(m, n, nonzeros, cap);
+        return blank(m, n, nonzeros, caps);
     }
-    begun(m, n, nonzeros, cap, k - 1)
+    begun(m, n, nonzeros, caps, k - 1)
 }
 
 // The search of a refused opening, with nothing in it.
@@ -133,7 +136,8 @@ pub fn no_search() -> Search
         m: 0,
         n: 0,
         nonzeros: 0,
-        cap: 0,
+        cap0: 0,
+        cap1: 0,
         tries: 0,
         best_count: 0,
         found: false,

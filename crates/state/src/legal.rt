@@ -1,10 +1,10 @@
-// The marks of a trail: legal ones, each 0, 1 or cut with 0 as the first other than cut, and the number cut.
+// The marks of a trail: legal ones, each 0, 1 or cut with mark 1 only where it is allowed, and the number cut.
 use trail::is_part;
 use trail::mark_at;
 ghost use mathlib.Core.Path.{_≡_};
 ghost use Rattle.counting.specs.Tests.{_or_};
 ghost use Rattle.trail.specs.Trail.{isPart};
-ghost use Rattle.state.specs.Legal.{marksLegal, zeroFirst, oneDenied, cutsIn};
+ghost use Rattle.state.specs.Legal.{marksLegal, onesLegal, oneDenied, cutsIn};
 
 // Each mark before an index is 0, 1 or cut.
 pub(crate) fn are_marks(marks: &[u8; 240], end: usize) -> bool
@@ -20,35 +20,35 @@ pub(crate) fn are_marks(marks: &[u8; 240], end: usize) -> bool
     true
 }
 
-// Mark 1 stands where no earlier mark is 0 or 1.
-fn one_denied(mark: u8, part: bool) -> bool
-    ensures { λ r. ⌜ r ≡ oneDenied mark part ⌝ }
+// Mark 1 stands where it is not allowed.
+fn one_denied(mark: u8, allowed: bool) -> bool
+    ensures { λ r. ⌜ r ≡ oneDenied mark allowed ⌝ }
 {
-    if part {
+    if allowed {
         return false;
     }
     mark == 1
 }
 
-// A part's mark now or earlier.
-fn part_so_far(mark: u8, part: bool) -> bool
-    ensures { λ r. ⌜ r ≡ isPart mark or part ⌝ }
+// Mark 1 is allowed behind this mark: it is 0 or 1, or mark 1 was allowed before it.
+fn allowed_behind(mark: u8, allowed: bool) -> bool
+    ensures { λ r. ⌜ r ≡ isPart mark or allowed ⌝ }
 {
-    if is_part(mark) { true } else { part }
+    if is_part(mark) { true } else { allowed }
 }
 
-// The first mark other than cut before an index is 0.
-pub(crate) fn starts_with_zero(marks: &[u8; 240], end: usize) -> bool
-    ensures { λ r. ⌜ r ≡ zeroFirst (now (marks .entry)) end ⌝ }
+// Mark 1 stands before an index only where it is allowed: it may come first, or some earlier mark is 0 or 1.
+pub(crate) fn ones_allowed(marks: &[u8; 240], end: usize, first: bool) -> bool
+    ensures { λ r. ⌜ r ≡ onesLegal first (now (marks .entry)) end ⌝ }
 {
-    let mut part = false;
+    let mut allowed = first;
     let mut i = 0;
     while i < end {
         let mark = mark_at(marks, i);
-        if one_denied(mark, part) {
+        if one_denied(mark, allowed) {
             return false;
         }
-        part = part_so_far(mark, part);
+        allowed = allowed_behind(mark, allowed);
         i += 1;
     }
     true

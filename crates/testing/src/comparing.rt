@@ -61,7 +61,10 @@ pub fn same_search(a: Search, b: Search) -> bool
     if a.nonzeros != b.nonzeros {
         return false;
     }
-    if a.cap != b.cap {
+    if a.cap0 != b.cap0 {
+        return false;
+    }
+    if a.cap1 != b.cap1 {
         return false;
     }
     if a.tries != b.tries {

@@ -65,7 +65,8 @@ fn write_split(split: Split, figures: Figures, out: &mut [u8]) -> WriteAnswer {
 pub(crate) fn sample_figures() -> Figures {
     Figures {
         volume: 0,
-        cap: 1,
+        cap0: 1,
+        cap1: 1,
         rest: 0,
         tries: 11,
         floor: 0,
@@ -88,9 +89,9 @@ pub(crate) fn write_case(cases: &[u8], at: usize) -> usize {
     let mut out = [9u8; 200];
     write_start(split, room.value as usize, &mut out);
     let kept = is_kept(&out);
-    let kept_past = is_kept(&out[117..200]);
+    let kept_past = is_kept(&out[120..200]);
     say_which(kept, b", output kept", b", output written");
-    say_which(kept_past, b", kept from 117 on", b", changed from 117 on");
+    say_which(kept_past, b", kept from 120 on", b", changed from 120 on");
     say(b"\n");
     room.next
 }
@@ -117,14 +118,16 @@ fn write_back(split: Split, figures: Figures) {
 pub(crate) fn back_case(cases: &[u8], at: usize) -> usize {
     let split = split_at(cases, at);
     let volume = number_at(cases, split.next);
-    let cap = number_at(cases, volume.next);
-    let rest = number_at(cases, cap.next);
+    let cap0 = number_at(cases, volume.next);
+    let cap1 = number_at(cases, cap0.next);
+    let rest = number_at(cases, cap1.next);
     let tries = number_at(cases, rest.next);
     let floor = number_at(cases, tries.next);
     let complete = number_at(cases, floor.next);
     let figures = Figures {
         volume: volume.value,
-        cap: cap.value,
+        cap0: cap0.value,
+        cap1: cap1.value,
         rest: rest.value,
         tries: tries.value,
         floor: floor.value,

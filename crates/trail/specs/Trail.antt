@@ -65,6 +65,10 @@ givesPartIn marks (suc i) = isPart (markOr 0 marks i) or givesPartIn marks i
 unfoldable pub partBefore : Trail → Bool
 partBefore t = givesPartIn (t .marks) (topOf (t .len))
 
+-- mark 1 is allowed as the last mark: it may come first, or some mark before the last is 0 or 1
+unfoldable pub mayBeOne : Bool → Trail → Bool
+mayBeOne first t = first or partBefore t
+
 -- without the marks cut at its end, of so many
 unfoldable pub uncut : ℕ → Trail → Trail
 uncut zero t = t
@@ -77,9 +81,9 @@ nextMark zero false = 2
 nextMark (suc x) allowed = 2
 
 -- with its last mark advanced, where that is not cut
-unfoldable pub lastAdvanced : Trail → Trail
-lastAdvanced t = replaced t (nextMark (lastMark t 0) (partBefore t))
+unfoldable pub lastAdvanced : Bool → Trail → Trail
+lastAdvanced first t = replaced t (nextMark (lastMark t 0) (mayBeOne first t))
 
 -- advanced
-unfoldable pub advanced : Trail → Trail
-advanced t = lastAdvanced (uncut (t .len) t)
+unfoldable pub advanced : Bool → Trail → Trail
+advanced first t = lastAdvanced first (uncut (t .len) t)

@@ -1,6 +1,6 @@
 // The trail: a marking in the order of lines, as a stack of marks. Its methods append, drop and advance marks and hand it back.
 ghost use mathlib.Core.Path.{_≡_};
-ghost use Rattle.trail.specs.Trail.{topOf, hasLast, appended, dropped, replaced, lastMark, markOr, isPart, givesPartIn, partBefore, nextMark, uncut, lastAdvanced, advanced};
+ghost use Rattle.trail.specs.Trail.{topOf, hasLast, appended, dropped, replaced, lastMark, markOr, isPart, givesPartIn, partBefore, mayBeOne, nextMark, uncut, lastAdvanced, advanced};
 
 // A marking: the mark of the line at place i is marks[i], for each i below len. Methods keep 0 in the marks past its length.
 pub struct Trail {
@@ -107,11 +107,21 @@ impl Trail {
     }
 
     // Some mark before the last is 0 or 1.
-    pub fn part_before(self) -> bool
+    fn part_before(self) -> bool
         ensures { λ r. ⌜ r ≡ partBefore self ⌝ }
     {
         let marks = self.marks;
         gives_part(&marks, top(self.len))
+    }
+
+    // Mark 1 is allowed as the last mark: it may come first, or some mark before the last is 0 or 1.
+    pub fn may_be_one(self, first: bool) -> bool
+        ensures { λ r. ⌜ r ≡ mayBeOne first self ⌝ }
+    {
+        if first {
+            return true;
+        }
+        self.part_before()
     }
 
     // Without the marks cut at its end.
@@ -125,20 +135,20 @@ impl Trail {
     }
 
     // With its last mark advanced, where that is not cut.
-    fn advance_last(self) -> Trail
-        ensures { λ r. ⌜ r ≡ lastAdvanced self ⌝ }
+    fn advance_last(self, first: bool) -> Trail
+        ensures { λ r. ⌜ r ≡ lastAdvanced first self ⌝ }
     {
-        let allowed = self.part_before();
+        let allowed = self.may_be_one(first);
         let mark = next_mark(self.last(0), allowed);
         self.replace_last(mark)
     }
 
-    // Advanced: last mark 0 becomes 1 if some earlier mark is 0 or 1, else cut; 1 becomes cut; cut is dropped and the mark before it
-    // advances.
-    pub fn advance(mut self) -> Trail
-        ensures { λ r. ⌜ r ≡ advanced self ⌝ }
+    // Advanced: last mark 0 becomes 1 if that may come first or some earlier mark is 0 or 1, else cut; 1 becomes cut; cut is dropped and the
+    // mark before it advances.
+    pub fn advance(mut self, first: bool) -> Trail
+        ensures { λ r. ⌜ r ≡ advanced first self ⌝ }
     {
         self = self.without_cuts();
-        self.advance_last()
+        self.advance_last(first)
     }
 }

@@ -15,8 +15,9 @@ use Rattle.counting.specs.Sums.{sum, count}
 use Rattle.counting.proofs.Joined.{no-way, by-test, and-left, and-right, and-cases, and-fails-right, pick-true, pick-false}
 use Rattle.counting.proofs.Counted.{count-eq, count-none}
 use Rattle.model.specs.declared.Part.{Part}
+use Rattle.model.specs.declared.Caps.{Caps}
 use Rattle.model.specs.Pattern.{Pattern, lines}
-use Rattle.model.specs.Split.{partNumber}
+use Rattle.model.specs.Split.{partNumber, capOf}
 use Rattle.model.specs.Marking.{Marking, taken}
 use Rattle.model.specs.Bound.{leans, untakenOn, atStake, falling, leaningCounts, strikes, struck}
 use Rattle.model.proofs.Bound.Struck.{untaken-most}
@@ -229,15 +230,15 @@ heavy-none P μ p x b =
 
 -- with arrays of how lines lean and of their untaken nonzeros, the lines struck are those of L3
 pub struck-is :
-    (P : Pattern) (μ : Marking) (p : Part) (cap : ℕ) (lean weights : List ℕ) →
+    (P : Pattern) (μ : Marking) (p : Part) (caps : Caps) (lean weights : List ℕ) →
     P .size ≤ 2000 →
     ((l : ℕ) → l < lines P → eqb (getD lean l 0) (partNumber p) ≡ leans P μ p l) →
     ((l : ℕ) → l < lines P → getD weights l 0 ≡ untakenOn P μ l) →
-    struckIn lean weights (partNumber p) (lines P) (atStake P μ p) (cap - taken P μ p) ≡ struck P cap μ p
+    struckIn lean weights (partNumber p) (lines P) (atStake P μ p) (capOf caps p - taken P μ p) ≡ struck P caps μ p
 unfolding struckIn struck leaningCounts
-struck-is P μ p cap lean weights small leaning weighing =
+struck-is P μ p caps lean weights small leaning weighing =
     ap
-    (λ (zs : List ℕ). strikes zs (atStake P μ p) (cap - taken P μ p))
+    (λ (zs : List ℕ). strikes zs (atStake P μ p) (capOf caps p - taken P μ p))
     (falling-eq (linesAt lean weights (partNumber p) (lines P)) model 2000 same ∙ falling-top model (P .size) 2000 small none)
   where
     model : ℕ → ℕ

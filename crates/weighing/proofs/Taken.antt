@@ -13,6 +13,7 @@ use Rattle.counting.proofs.Joined.{pick-false, and-fails-left}
 use Rattle.counting.proofs.Counted.{count-most, count-more, any-more}
 use Rattle.model.specs.declared.Part.{Part}
 use Rattle.model.specs.declared.Part.the-variants.{Zero, One}
+use Rattle.model.specs.declared.Caps.{Caps}
 use Rattle.model.specs.Pattern.{Pattern, patternOf, rowIn, columnIn, rowLine, columnLine, on}
 use Rattle.model.specs.Split.{partNumber}
 use Rattle.model.specs.Marking.{Marking, takes, taken, touched, valid}
@@ -124,20 +125,20 @@ one-small {P} {μ} {t} k = omega (arith, k .one-is, count-most (takes P μ One) 
 
 -- the test of validity, on what the pass answers, is validity
 pub valid-by :
-    {P : Pattern} {μ : Marking} {r : Taken} {z₀ o₀ z o : List ℕ} (cap : ℕ) →
-    TakesOpen P μ r z₀ o₀ z o → validBy r cap ≡ valid P cap μ
+    {P : Pattern} {μ : Marking} {r : Taken} {z₀ o₀ z o : List ℕ} (caps : Caps) →
+    TakesOpen P μ r z₀ o₀ z o → validBy r caps ≡ valid P caps μ
 unfolding validBy valid
-valid-by cap k = rw (k .zero-is, k .one-is, k .both-is)
+valid-by caps k = rw (k .zero-is, k .one-is, k .both-is)
 
 -- where some nonzero is taken by both, the marking is not valid
-pub valid-both : (r : Taken) (cap : ℕ) → r .both ≡ true → validBy r cap ≡ false
+pub valid-both : (r : Taken) (caps : Caps) → r .both ≡ true → validBy r caps ≡ false
 unfolding validBy
-valid-both r cap h =
-    and-fails-left (leb (r .one) cap) (and-fails-left (leb (r .zero) cap) (ap not h))
+valid-both r caps h =
+    and-fails-left (leb (r .one) (caps .cap1)) (and-fails-left (leb (r .zero) (caps .cap0)) (ap not h))
 
 -- else validity is a matter of the two counts
 pub valid-apart :
-    (r : Taken) (cap : ℕ) (fits : Bool) →
-    r .both ≡ false → fits ≡ leb (r .zero) cap and leb (r .one) cap → fits ≡ validBy r cap
+    (r : Taken) (caps : Caps) (fits : Bool) →
+    r .both ≡ false → fits ≡ leb (r .zero) (caps .cap0) and leb (r .one) (caps .cap1) → fits ≡ validBy r caps
 unfolding validBy _and_
-valid-apart r cap fits h e = e ∙ rw h
+valid-apart r caps fits h e = e ∙ rw h

@@ -9,6 +9,7 @@ use lib.ListN.{getD}
 use Rattle.counting.specs.Tests.{_and_, pick}
 use Rattle.counting.specs.Sums.{any}
 use Rattle.model.specs.declared.Part.the-variants.{Zero, One}
+use Rattle.model.specs.declared.Caps.{Caps}
 use Rattle.model.specs.Pattern.{Pattern}
 use Rattle.model.specs.Marking.{Marking, takes, taken, touched}
 use Rattle.weighing.specs.declared.taking.Taken.{Taken}
@@ -30,5 +31,5 @@ pub record TakesOpen (P : Pattern) (μ : Marking) (r : Taken) (zero₀ one₀ ze
   pub by-one : (l : ℕ) → l < 512 → 2 ≤ μ l → getD one₁ l 0 ≡ pick (touched P μ One l) 1 (getD one₀ l 0)
 
 -- valid, by what is taken
-unfoldable pub validBy : Taken → ℕ → Bool
-validBy r cap = not (r .both) and leb (r .zero) cap and leb (r .one) cap
+unfoldable pub validBy : Taken → Caps → Bool
+validBy r caps = not (r .both) and leb (r .zero) (caps .cap0) and leb (r .one) (caps .cap1)

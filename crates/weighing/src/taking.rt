@@ -4,6 +4,7 @@ use crate::cells::put_if;
 use counting::joining::bit_of;
 use counting::joining::both_of;
 use counting::joining::either_of;
+use model::Caps;
 use pattern::reading::column_of;
 use pattern::reading::row_of;
 use pattern::reading::wide;
@@ -74,14 +75,14 @@ pub(crate) fn take_all(
     Taken { zero, one, both }
 }
 
-// The marking is valid: no nonzero is taken by both parts, and D0, D1 are at most the cap.
-pub fn is_valid(taken: Taken, cap: u64) -> bool
-    ensures { λ r. ⌜ r ≡ validBy taken cap ⌝ }
+// The marking is valid: no nonzero is taken by both parts, and D0 is at most cap 0 and D1 at most cap 1.
+pub fn is_valid(taken: Taken, caps: Caps) -> bool
+    ensures { λ r. ⌜ r ≡ validBy taken caps ⌝ }
 {
     let zero = taken.zero;
     let one = taken.one;
     if taken.both {
         return false;
     }
-    both_of(zero as u64 <= cap, one as u64 <= cap)
+    both_of(zero as u64 <= caps.cap0, one as u64 <= caps.cap1)
 }

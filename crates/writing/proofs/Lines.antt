@@ -17,7 +17,7 @@ unfolding refusedText
 puts-refused word place e a b c = puts-then (puts-as (ap (figureText #refused) e) a) (puts-then b c)
 
 pub puts-none-yet :
-    {page p1 p2 : List ℕ} {at r1 r2 : ℕ} (cap rest tries floor : ℕ) → Puts page at #none p1 r1 →
-    Puts p1 r1 (figuresText cap rest tries floor 10) p2 r2 → Puts page at (noneText cap rest tries floor) p2 r2
+    {page p1 p2 : List ℕ} {at r1 r2 : ℕ} (cap0 cap1 rest tries floor : ℕ) → Puts page at #none p1 r1 →
+    Puts p1 r1 (figuresText cap0 cap1 rest tries floor 10) p2 r2 → Puts page at (noneText cap0 cap1 rest tries floor) p2 r2
 unfolding noneText
-puts-none-yet cap rest tries floor a b = puts-then a b
+puts-none-yet cap0 cap1 rest tries floor a b = puts-then a b

@@ -12,7 +12,7 @@ use borrow.Author.Tests.{eq-eqb, ne-eqb}
 use Rattle.counting.proofs.Joined.{by-test, pick-true, pick-false}
 use Rattle.model.specs.Pattern.{rowIn, columnIn}
 use Rattle.writing.specs.declared.Figures.{Figures}
-use Rattle.writing.specs.Written.{Puts, decimals, numberText, figureText, #volume, #cap, #rest, #tries, #floor, figuresText, #stopped, #complete, #first-line, endingText, commentText, sizesText, entryText, entriesText, headText, bodyText, textOf}
+use Rattle.writing.specs.Written.{Puts, decimals, numberText, figureText, #volume, #caps, #rest, #tries, #floor, capsText, figuresText, #stopped, #complete, #first-line, endingText, commentText, sizesText, entryText, entriesText, headText, bodyText, textOf}
 use Rattle.writing.proofs.Decimals.{decimals-short}
 
 -- a text put after another
@@ -110,22 +110,34 @@ pub figure-short : (label : List ℕ) (n : ℕ) → length (figureText label n) 
 unfolding figureText
 figure-short label n = omega (arith, length-append label (numberText n 32), number-short n 32)
 
+-- both caps
+pub puts-caps :
+    {page first last : List ℕ} {at mid next : ℕ} (cap0 cap1 : ℕ) →
+    Puts page at (figureText #caps cap0) first mid → Puts first mid (numberText cap1 32) last next → Puts page at (capsText cap0 cap1) last next
+unfolding capsText
+puts-caps cap0 cap1 p q = puts-then p q
+
+pub caps-short : (cap0 cap1 : ℕ) → length (capsText cap0 cap1) ≤ 47
+unfolding capsText
+caps-short cap0 cap1 =
+    omega (arith, length-append (figureText #caps cap0) (numberText cap1 32), figure-short #caps cap0, number-short cap1 32)
+
 -- what the comment and the line "none yet" both say
 pub puts-figures :
-    {page p1 p2 p3 p4 p5 : List ℕ} {at r1 r2 r3 r4 r5 : ℕ} (cap rest tries floor b : ℕ) →
-    Puts page at (figureText #cap cap) p1 r1 → Puts p1 r1 (figureText #rest rest) p2 r2 → Puts p2 r2 (figureText #tries tries) p3 r3 →
-    Puts p3 r3 #floor p4 r4 → Puts p4 r4 (numberText floor b) p5 r5 → Puts page at (figuresText cap rest tries floor b) p5 r5
+    {page p1 p2 p3 p4 p5 : List ℕ} {at r1 r2 r3 r4 r5 : ℕ} (cap0 cap1 rest tries floor b : ℕ) →
+    Puts page at (capsText cap0 cap1) p1 r1 → Puts p1 r1 (figureText #rest rest) p2 r2 → Puts p2 r2 (figureText #tries tries) p3 r3 →
+    Puts p3 r3 #floor p4 r4 → Puts p4 r4 (numberText floor b) p5 r5 → Puts page at (figuresText cap0 cap1 rest tries floor b) p5 r5
 unfolding figuresText
-puts-figures cap rest tries floor b p q r s t = puts-then p (puts-then q (puts-then r (puts-then s t)))
+puts-figures cap0 cap1 rest tries floor b p q r s t = puts-then p (puts-then q (puts-then r (puts-then s t)))
 
-pub figures-short : (cap rest tries floor b : ℕ) → length (figuresText cap rest tries floor b) ≤ 105
+pub figures-short : (cap0 cap1 rest tries floor b : ℕ) → length (figuresText cap0 cap1 rest tries floor b) ≤ 127
 unfolding figuresText
-figures-short cap rest tries floor b =
+figures-short cap0 cap1 rest tries floor b =
     let last = #floor ++ numberText floor b in
     let third = figureText #tries tries ++ last in
     let second = figureText #rest rest ++ third in
     omega
-    (arith, length-append (figureText #cap cap) second, length-append (figureText #rest rest) third, length-append (figureText #tries tries) last, length-append #floor (numberText floor b), figure-short #cap cap, figure-short #rest rest, figure-short #tries tries, number-short floor b)
+    (arith, length-append (capsText cap0 cap1) second, length-append (figureText #rest rest) third, length-append (figureText #tries tries) last, length-append #floor (numberText floor b), caps-short cap0 cap1, figure-short #rest rest, figure-short #tries tries, number-short floor b)
 
 pub ending-stopped : (complete : ℕ) → complete ≡ 0 → #stopped ≡ endingText complete
 unfolding endingText
@@ -145,18 +157,18 @@ ending-short complete =
 
 pub puts-comment :
     {page p1 p2 p3 : List ℕ} {at r1 r2 r3 : ℕ} (f : Figures) → Puts page at (figureText #volume (f .volume)) p1 r1 →
-    Puts p1 r1 (figuresText (f .cap) (f .rest) (f .tries) (f .floor) 32) p2 r2 → Puts p2 r2 (endingText (f .complete)) p3 r3 →
+    Puts p1 r1 (figuresText (f .cap0) (f .cap1) (f .rest) (f .tries) (f .floor) 32) p2 r2 → Puts p2 r2 (endingText (f .complete)) p3 r3 →
     Puts page at (commentText f) p3 r3
 unfolding commentText
 puts-comment f p q r = puts-then p (puts-then q r)
 
-pub comment-short : (f : Figures) → length (commentText f) ≤ 144
+pub comment-short : (f : Figures) → length (commentText f) ≤ 166
 unfolding commentText
 comment-short f =
     let volume = figureText #volume (f .volume) in
-    let figures = figuresText (f .cap) (f .rest) (f .tries) (f .floor) 32 in
+    let figures = figuresText (f .cap0) (f .cap1) (f .rest) (f .tries) (f .floor) 32 in
     omega
-    (arith, length-append volume (figures ++ endingText (f .complete)), length-append figures (endingText (f .complete)), figure-short #volume (f .volume), figures-short (f .cap) (f .rest) (f .tries) (f .floor) 32, ending-short (f .complete))
+    (arith, length-append volume (figures ++ endingText (f .complete)), length-append figures (endingText (f .complete)), figure-short #volume (f .volume), figures-short (f .cap0) (f .cap1) (f .rest) (f .tries) (f .floor) 32, ending-short (f .complete))
 
 pub puts-sizes :
     {page p1 p2 p3 : List ℕ} {at r1 r2 r3 : ℕ} (m n nonzeros : ℕ) →
@@ -197,7 +209,7 @@ pub puts-head :
 unfolding headText
 puts-head f p q = puts-then p q
 
-pub head-short : (f : Figures) → length (headText f) ≤ 193
+pub head-short : (f : Figures) → length (headText f) ≤ 215
 unfolding headText
 head-short f = omega (arith, length-append #first-line (commentText f), comment-short f)
 

@@ -18,7 +18,7 @@ use Rattle.scanning.specs.Words.{wordAt, spells, sameWord, endsAt}
 use Rattle.scanning.proofs.Scans.{size-on}
 use Rattle.texts.specs.Header.{fieldAt, bannerAt}
 use Rattle.writing.specs.declared.Figures.{Figures}
-use Rattle.writing.specs.Written.{decimals, numberText, figureText, #volume, #cap, #rest, #tries, #floor, figuresText, #stopped, #complete, #first-line, endingText, commentText}
+use Rattle.writing.specs.Written.{decimals, numberText, figureText, #volume, #caps, #rest, #tries, #floor, capsText, figuresText, #stopped, #complete, #first-line, endingText, commentText}
 use Rattle.writing.proofs.Held.{Holds, holds-left, holds-as, holds-itself, every, every-append, digit-class, decimals-every}
 use Rattle.writing.proofs.Back.{plain, end-back, next-back}
 
@@ -89,21 +89,25 @@ ending-plain complete = by-case (eqb complete 0)
 -- the comment without its LF
 unfoldable pub commentBody : Figures → List ℕ
 commentBody f =
-    figureText #volume (f .volume) ++ (figuresText (f .cap) (f .rest) (f .tries) (f .floor) 32 ++ endingBody (f .complete))
+    figureText #volume (f .volume) ++ (figuresText (f .cap0) (f .cap1) (f .rest) (f .tries) (f .floor) 32 ++ endingBody (f .complete))
 
 pub comment-body : (f : Figures) → commentText f ≡ commentBody f ++ (10 ∷ [])
 unfolding commentText commentBody
 comment-body f = rw (ending-body (f .complete)) (sym (simp append-assoc))
 
 labels-plain :
-    (every plain #volume ≡ true) × (every plain #cap ≡ true) × (every plain #rest ≡ true) × (every plain #tries ≡ true) × (every plain #floor ≡ true)
+    (every plain #volume ≡ true) × (every plain #caps ≡ true) × (every plain #rest ≡ true) × (every plain #tries ≡ true) × (every plain #floor ≡ true)
 unfolding every plain classOf between _and_ _or_ pick
 labels-plain = (refl, refl, refl, refl, refl)
 
-figures-plain : (cap rest tries floor : ℕ) → every plain (figuresText cap rest tries floor 32) ≡ true
+caps-plain : (cap0 cap1 : ℕ) → every plain (capsText cap0 cap1) ≡ true
+unfolding capsText
+caps-plain cap0 cap1 = every-append plain _ _ (figure-plain #caps cap0 (labels-plain .1)) (number-plain cap1)
+
+figures-plain : (cap0 cap1 rest tries floor : ℕ) → every plain (figuresText cap0 cap1 rest tries floor 32) ≡ true
 unfolding figuresText
-figures-plain cap rest tries floor =
-    every-append plain _ _ (figure-plain #cap cap (labels-plain .1))
+figures-plain cap0 cap1 rest tries floor =
+    every-append plain _ _ (caps-plain cap0 cap1)
     (every-append plain _ _ (figure-plain #rest rest (labels-plain .2))
     (every-append plain _ _ (figure-plain #tries tries (labels-plain .3))
     (every-append plain _ _ (labels-plain .4) (number-plain floor))))
@@ -112,7 +116,7 @@ pub comment-plain : (f : Figures) → every plain (commentBody f) ≡ true
 unfolding commentBody
 comment-plain f =
     every-append plain _ _ (figure-plain #volume (f .volume) (labels-plain .0))
-    (every-append plain _ _ (figures-plain (f .cap) (f .rest) (f .tries) (f .floor)) (ending-plain (f .complete)))
+    (every-append plain _ _ (figures-plain (f .cap0) (f .cap1) (f .rest) (f .tries) (f .floor)) (ending-plain (f .complete)))
 
 percent-first : (f : Figures) → getD (commentText f) 0 0 ≡ 37
 unfolding commentText figureText

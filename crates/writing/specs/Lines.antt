@@ -20,6 +20,6 @@ abbrev pub #none : List ℕ
 unfoldable pub refusedText : Word → ℕ → List ℕ
 refusedText word place = figureText #refused (refusalNumber word) ++ (#at ++ numberText place 10)
 
--- none yet cap C rest R tries T floor F
-unfoldable pub noneText : ℕ → ℕ → ℕ → ℕ → List ℕ
-noneText cap rest tries floor = #none ++ figuresText cap rest tries floor 10
+-- none yet caps C0 C1 rest R tries T floor F
+unfoldable pub noneText : ℕ → ℕ → ℕ → ℕ → ℕ → List ℕ
+noneText cap0 cap1 rest tries floor = #none ++ figuresText cap0 cap1 rest tries floor 10

@@ -1,4 +1,4 @@
--- Worked samples of the writer: document 01's text with its rest, read back, and refusals.
+-- Worked samples of the writer: document 01's text with both caps and its rest, read back, and refusals.
 -- Assumes nothing.
 use mathlib.Core.Bool.{true}
 use mathlib.Core.List.{List, [], _∷_, _++_}
@@ -16,13 +16,13 @@ use Rattle.texts.specs.Reading.{readCall, readList, readParts}
 use Rattle.texts.specs.Computing.{computing}
 use Rattle.writing.specs.declared.Figures.{Figures}
 use Rattle.writing.specs.declared.WriteAnswer.the-variants as write-answer
-use Rattle.writing.specs.Written.{decimals, numberText, figureText, figuresText, endingText, commentText, sizesText, entryText, entriesText, headText, bodyText, textOf}
+use Rattle.writing.specs.Written.{decimals, numberText, figureText, capsText, figuresText, endingText, commentText, sizesText, entryText, entriesText, headText, bodyText, textOf}
 use Rattle.writing.specs.Lines.{noneText}
 use Rattle.writing.specs.Writing.{nonzeroVerdict, writeVerdict, lengthAnswer, textOut, answerWritten, outWritten, writeCall, writeOut, writeReply}
 
 -- to unfold this is to unfold every definition that a writing computes with
 calling : Type 0
-unfolding writeCall writeOut writeVerdict nonzeroVerdict lengthAnswer textOut answerWritten outWritten textOf headText bodyText entriesText entryText sizesText commentText endingText figuresText figureText numberText decimals eachVerdict partVerdict entryVerdict rises rowIn columnIn refuse _then_ sizesVerdict outside _and_ _or_ pick
+unfolding writeCall writeOut writeVerdict nonzeroVerdict lengthAnswer textOut answerWritten outWritten textOf headText bodyText entriesText entryText sizesText commentText endingText figuresText capsText figureText numberText decimals eachVerdict partVerdict entryVerdict rises rowIn columnIn refuse _then_ sizesVerdict outside _and_ _or_ pick
 calling = Unit
 
 -- the 2 by 2 diagonal, with its nonzeros in different parts, and the figures of document 01's sample
@@ -33,17 +33,17 @@ abbrev apart : List ℕ
 apart = 0 ∷ 1 ∷ []
 
 abbrev figures : Figures
-figures = record { volume = 0; cap = 1; rest = 0; tries = 11; floor = 0; complete = 1 }
+figures = record { volume = 0; cap0 = 1; cap1 = 1; rest = 0; tries = 11; floor = 0; complete = 1 }
 
--- the text that document 01 prints, with rest 0
+-- the text that document 01 prints, with both caps and rest 0
 abbrev printed : List ℕ
-printed = 37 ∷ 37 ∷ 77 ∷ 97 ∷ 116 ∷ 114 ∷ 105 ∷ 120 ∷ 77 ∷ 97 ∷ 114 ∷ 107 ∷ 101 ∷ 116 ∷ 32 ∷ 109 ∷ 97 ∷ 116 ∷ 114 ∷ 105 ∷ 120 ∷ 32 ∷ 99 ∷ 111 ∷ 111 ∷ 114 ∷ 100 ∷ 105 ∷ 110 ∷ 97 ∷ 116 ∷ 101 ∷ 32 ∷ 105 ∷ 110 ∷ 116 ∷ 101 ∷ 103 ∷ 101 ∷ 114 ∷ 32 ∷ 103 ∷ 101 ∷ 110 ∷ 101 ∷ 114 ∷ 97 ∷ 108 ∷ 10 ∷ 37 ∷ 32 ∷ 118 ∷ 111 ∷ 108 ∷ 117 ∷ 109 ∷ 101 ∷ 32 ∷ 48 ∷ 32 ∷ 99 ∷ 97 ∷ 112 ∷ 32 ∷ 49 ∷ 32 ∷ 114 ∷ 101 ∷ 115 ∷ 116 ∷ 32 ∷ 48 ∷ 32 ∷ 116 ∷ 114 ∷ 105 ∷ 101 ∷ 115 ∷ 32 ∷ 49 ∷ 49 ∷ 32 ∷ 102 ∷ 108 ∷ 111 ∷ 111 ∷ 114 ∷ 32 ∷ 48 ∷ 32 ∷ 99 ∷ 111 ∷ 109 ∷ 112 ∷ 108 ∷ 101 ∷ 116 ∷ 101 ∷ 10 ∷ 50 ∷ 32 ∷ 50 ∷ 32 ∷ 50 ∷ 10 ∷ 49 ∷ 32 ∷ 49 ∷ 32 ∷ 49 ∷ 10 ∷ 50 ∷ 32 ∷ 50 ∷ 32 ∷ 50 ∷ 10 ∷ []
+printed = 37 ∷ 37 ∷ 77 ∷ 97 ∷ 116 ∷ 114 ∷ 105 ∷ 120 ∷ 77 ∷ 97 ∷ 114 ∷ 107 ∷ 101 ∷ 116 ∷ 32 ∷ 109 ∷ 97 ∷ 116 ∷ 114 ∷ 105 ∷ 120 ∷ 32 ∷ 99 ∷ 111 ∷ 111 ∷ 114 ∷ 100 ∷ 105 ∷ 110 ∷ 97 ∷ 116 ∷ 101 ∷ 32 ∷ 105 ∷ 110 ∷ 116 ∷ 101 ∷ 103 ∷ 101 ∷ 114 ∷ 32 ∷ 103 ∷ 101 ∷ 110 ∷ 101 ∷ 114 ∷ 97 ∷ 108 ∷ 10 ∷ 37 ∷ 32 ∷ 118 ∷ 111 ∷ 108 ∷ 117 ∷ 109 ∷ 101 ∷ 32 ∷ 48 ∷ 32 ∷ 99 ∷ 97 ∷ 112 ∷ 115 ∷ 32 ∷ 49 ∷ 32 ∷ 49 ∷ 32 ∷ 114 ∷ 101 ∷ 115 ∷ 116 ∷ 32 ∷ 48 ∷ 32 ∷ 116 ∷ 114 ∷ 105 ∷ 101 ∷ 115 ∷ 32 ∷ 49 ∷ 49 ∷ 32 ∷ 102 ∷ 108 ∷ 111 ∷ 111 ∷ 114 ∷ 32 ∷ 48 ∷ 32 ∷ 99 ∷ 111 ∷ 109 ∷ 112 ∷ 108 ∷ 101 ∷ 116 ∷ 101 ∷ 10 ∷ 50 ∷ 32 ∷ 50 ∷ 32 ∷ 50 ∷ 10 ∷ 49 ∷ 32 ∷ 49 ∷ 32 ∷ 49 ∷ 10 ∷ 50 ∷ 32 ∷ 50 ∷ 32 ∷ 50 ∷ 10 ∷ []
 
 -- an output with a byte more than the text takes
 abbrev paper : List ℕ
-paper = replicate 118 7
+paper = replicate 121 7
 
-written : writeCall 2 2 2 diagonal apart figures paper ≡ write-answer.Written 117
+written : writeCall 2 2 2 diagonal apart figures paper ≡ write-answer.Written 120
 unfolding calling
 written = refl
 
@@ -65,9 +65,9 @@ back-parts : readParts printed (replicate 4 9) (replicate 2 9) ≡ apart
 unfolding computing
 back-parts = refl
 
--- "none yet" with the cap and rest of 233 nonzeros at 3 percent
-none-yet : noneText 120 51 0 0 ≡ 110 ∷ 111 ∷ 110 ∷ 101 ∷ 32 ∷ 121 ∷ 101 ∷ 116 ∷ 32 ∷ 99 ∷ 97 ∷ 112 ∷ 32 ∷ 49 ∷ 50 ∷ 48 ∷ 32 ∷ 114 ∷ 101 ∷ 115 ∷ 116 ∷ 32 ∷ 53 ∷ 49 ∷ 32 ∷ 116 ∷ 114 ∷ 105 ∷ 101 ∷ 115 ∷ 32 ∷ 48 ∷ 32 ∷ 102 ∷ 108 ∷ 111 ∷ 111 ∷ 114 ∷ 32 ∷ 48 ∷ 10 ∷ []
-unfolding noneText figuresText figureText numberText decimals pick
+-- "none yet" with the caps and rest of 233 nonzeros at 3 percent
+none-yet : noneText 120 120 51 0 0 ≡ 110 ∷ 111 ∷ 110 ∷ 101 ∷ 32 ∷ 121 ∷ 101 ∷ 116 ∷ 32 ∷ 99 ∷ 97 ∷ 112 ∷ 115 ∷ 32 ∷ 49 ∷ 50 ∷ 48 ∷ 32 ∷ 49 ∷ 50 ∷ 48 ∷ 32 ∷ 114 ∷ 101 ∷ 115 ∷ 116 ∷ 32 ∷ 53 ∷ 49 ∷ 32 ∷ 116 ∷ 114 ∷ 105 ∷ 101 ∷ 115 ∷ 32 ∷ 48 ∷ 32 ∷ 102 ∷ 108 ∷ 111 ∷ 111 ∷ 114 ∷ 32 ∷ 48 ∷ 10 ∷ []
+unfolding noneText figuresText capsText figureText numberText decimals pick
 none-yet = refl
 
 -- 0 is one digit, a number that ends in zeros has each of them, and the largest figure has twenty digits
@@ -102,7 +102,7 @@ unfolding calling
 short-parts = refl
 
 -- what a writing replies in numbers: the text's length
-written-reply : writeReply (write-answer.Written 117) ≡ record { number = 0; place = 0; values = 117 ∷ [] }
+written-reply : writeReply (write-answer.Written 120) ≡ record { number = 0; place = 0; values = 120 ∷ [] }
 unfolding writeReply given
 written-reply = refl
 

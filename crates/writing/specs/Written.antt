@@ -28,12 +28,12 @@ numberText n b = decimals 20 n ++ (b ∷ [])
 unfoldable pub figureText : List ℕ → ℕ → List ℕ
 figureText label n = label ++ numberText n 32
 
--- "% volume ", "cap ", "rest ", "tries ", "floor "
+-- "% volume ", "caps ", "rest ", "tries ", "floor "
 abbrev pub #volume : List ℕ
 #volume = 37 ∷ 32 ∷ 118 ∷ 111 ∷ 108 ∷ 117 ∷ 109 ∷ 101 ∷ 32 ∷ []
 
-abbrev pub #cap : List ℕ
-#cap = 99 ∷ 97 ∷ 112 ∷ 32 ∷ []
+abbrev pub #caps : List ℕ
+#caps = 99 ∷ 97 ∷ 112 ∷ 115 ∷ 32 ∷ []
 
 abbrev pub #rest : List ℕ
 #rest = 114 ∷ 101 ∷ 115 ∷ 116 ∷ 32 ∷ []
@@ -44,10 +44,14 @@ abbrev pub #tries : List ℕ
 abbrev pub #floor : List ℕ
 #floor = 102 ∷ 108 ∷ 111 ∷ 111 ∷ 114 ∷ 32 ∷ []
 
--- cap C rest R tries T floor F, and the byte after it
-unfoldable pub figuresText : ℕ → ℕ → ℕ → ℕ → ℕ → List ℕ
-figuresText cap rest tries floor b =
-    figureText #cap cap
+-- caps C0 C1, and a space
+unfoldable pub capsText : ℕ → ℕ → List ℕ
+capsText cap0 cap1 = figureText #caps cap0 ++ numberText cap1 32
+
+-- caps C0 C1 rest R tries T floor F, and the byte after it
+unfoldable pub figuresText : ℕ → ℕ → ℕ → ℕ → ℕ → ℕ → List ℕ
+figuresText cap0 cap1 rest tries floor b =
+    capsText cap0 cap1
     ++ (figureText #rest rest ++ (figureText #tries tries ++ (#floor ++ numberText floor b)))
 
 -- "stopped" LF and "complete" LF
@@ -61,11 +65,11 @@ abbrev pub #complete : List ℕ
 unfoldable pub endingText : ℕ → List ℕ
 endingText complete = pick (eqb complete 0) #stopped #complete
 
--- the comment: % volume V cap C rest R tries T floor F complete
+-- the comment: % volume V caps C0 C1 rest R tries T floor F complete
 unfoldable pub commentText : Figures → List ℕ
 commentText f =
     figureText #volume (f .volume)
-    ++ (figuresText (f .cap) (f .rest) (f .tries) (f .floor) 32 ++ endingText (f .complete))
+    ++ (figuresText (f .cap0) (f .cap1) (f .rest) (f .tries) (f .floor) 32 ++ endingText (f .complete))
 
 -- three numbers, single spaces, LF
 unfoldable pub sizesText : ℕ → ℕ → ℕ → List ℕ

@@ -15,7 +15,7 @@ use pattern::reading::wide16;
 ghost use mathlib.Core.Path.{_≡_};
 ghost use Prim.Native.Nat.{_<_};
 ghost use lib.ListN.{length};
-ghost use Rattle.writing.specs.Written.{Puts, numberText, figureText, figuresText, entryText, entriesText, endingText, commentText, sizesText, headText, bodyText, textOf};
+ghost use Rattle.writing.specs.Written.{Puts, numberText, figureText, capsText, figuresText, entryText, entriesText, endingText, commentText, sizesText, headText, bodyText, textOf};
 ghost use Rattle.writing.specs.Writing.{lengthAnswer, textOut, writeCall, writeOut, writeReply, writeReplies};
 
 mod digits;
@@ -53,20 +53,30 @@ fn put_figure(page: &mut [u8], at: usize, label: &[u8], n: u64) -> usize
     put_number(page, next, n, b' ')
 }
 
-// "cap C rest R tries T floor F" and the byte after it, as the comment and the line "none yet" say it.
+// "caps C0 C1" and a space.
+fn put_caps(page: &mut [u8], at: usize, cap0: u64, cap1: u64) -> usize
+    requires { ⌜ at < 1073741824 ⌝ }
+    ensures { λ r. ⌜ Puts (now (page .entry)) at (capsText cap0 cap1) (now (page .exit)) r ⌝ }
+{
+    let next = put_figure(page, at, b"caps ", cap0);
+    put_number(page, next, cap1, b' ')
+}
+
+// "caps C0 C1 rest R tries T floor F" and the byte after it, as the comment and the line "none yet" say it.
 fn put_figures(
     page: &mut [u8],
     at: usize,
-    cap: u64,
+    cap0: u64,
+    cap1: u64,
     rest: u64,
     tries: u64,
     floor: u64,
     byte: u8,
 ) -> usize
     requires { ⌜ at < 1073741824 ⌝ }
-    ensures { λ r. ⌜ Puts (now (page .entry)) at (figuresText cap rest tries floor byte) (now (page .exit)) r ⌝ }
+    ensures { λ r. ⌜ Puts (now (page .entry)) at (figuresText cap0 cap1 rest tries floor byte) (now (page .exit)) r ⌝ }
 {
-    let a = put_figure(page, at, b"cap ", cap);
+    let a = put_caps(page, at, cap0, cap1);
     let b = put_figure(page, a, b"rest ", rest);
     let c = put_figure(page, b, b"tries ", tries);
     let d = put_bytes(page, c, b"floor ");
@@ -94,7 +104,8 @@ fn put_comment(page: &mut [u8], at: usize, figures: Figures) -> usize
     let b = put_figures(
         page,
         a,
-        figures.cap,
+        figures.cap0,
+        figures.cap1,
         figures.rest,
         figures.tries,
         figures.floor,

@@ -2,6 +2,7 @@
 -- Assumes nothing.
 use borrow.Author.Needs.{needs}
 use Rattle.pattern.proofs.Verdicts.{accepted-tag}
+use Rattle.model.specs.Split.{capsOf}
 use Rattle.gulzoreno.proofs.Places.{host-place}
 use Rattle.gulzoreno.proofs.Answers.{accepted-code, accepted-parts, accepted-figures, stopped, stopped-code, stopped-parts, stopped-figures}
 use Rattle.gulzoreno.proofs.gulzoreno_bipartition.Statement.{statement}
@@ -32,7 +33,7 @@ refusal-code-requires c κs =
     let later = both .before in
     let first = later .before .before .before in
     let a = first .before .before .before .before .args in
-    host-place (a .m) (a .n) (a .nonzeros) (a .list .now) (a .cap) (a .budget) (a .parts .now) (a .figures .now) (stopped (a .m) (a .n) (a .nonzeros) (a .list .now) (a .cap) (a .budget) (a .parts .now) (a .figures .now) _ (first .open .ensures .0) _ _ (later .output-verdict .ensures) (both .and-then .ensures) _ _ (told .verdict .given .1))
+    host-place (a .m) (a .n) (a .nonzeros) (a .list .now) (capsOf (a .cap0) (a .cap1)) (a .budget) (a .parts .now) (a .figures .now) (stopped (a .m) (a .n) (a .nonzeros) (a .list .now) (capsOf (a .cap0) (a .cap1)) (a .budget) (a .parts .now) (a .figures .now) _ (first .open .ensures .0) _ _ (later .output-verdict .ensures) (both .and-then .ensures) _ _ (told .verdict .given .1))
 
 same-length : tie.Need-same-length
 same-length c = search needs
@@ -49,7 +50,7 @@ returns c =
     let first = later .before .before .before in
     let a = first .before .before .before .before .args in
     let fine = accepted-tag _ (told .match .keys1) in
-    (accepted-code (a .m) (a .n) (a .nonzeros) (a .list .now) (a .cap) (a .budget) (a .parts .now) (a .figures .now) _ (first .open .ensures .0) _ _ (later .output-verdict .ensures) (both .and-then .ensures) fine _ (shown .run-and-show .ensures .0), (accepted-parts (a .m) (a .n) (a .nonzeros) (a .list .now) (a .cap) (a .budget) (a .parts .now) (a .figures .now) _ (first .open .ensures .0) _ _ (later .output-verdict .ensures) (both .and-then .ensures) fine _ (shown .run-and-show .ensures .1 .0), accepted-figures (a .m) (a .n) (a .nonzeros) (a .list .now) (a .cap) (a .budget) (a .parts .now) (a .figures .now) _ (first .open .ensures .0) _ _ (later .output-verdict .ensures) (both .and-then .ensures) fine _ (shown .run-and-show .ensures .1 .1)))
+    (accepted-code (a .m) (a .n) (a .nonzeros) (a .list .now) (capsOf (a .cap0) (a .cap1)) (a .budget) (a .parts .now) (a .figures .now) _ (first .open .ensures .0) _ _ (later .output-verdict .ensures) (both .and-then .ensures) fine _ (shown .run-and-show .ensures .0), (accepted-parts (a .m) (a .n) (a .nonzeros) (a .list .now) (capsOf (a .cap0) (a .cap1)) (a .budget) (a .parts .now) (a .figures .now) _ (first .open .ensures .0) _ _ (later .output-verdict .ensures) (both .and-then .ensures) fine _ (shown .run-and-show .ensures .1 .0), accepted-figures (a .m) (a .n) (a .nonzeros) (a .list .now) (capsOf (a .cap0) (a .cap1)) (a .budget) (a .parts .now) (a .figures .now) _ (first .open .ensures .0) _ _ (later .output-verdict .ensures) (both .and-then .ensures) fine _ (shown .run-and-show .ensures .1 .1)))
 
 same-length-3 : tie.Need-same-length-3
 same-length-3 c = search needs
@@ -65,7 +66,7 @@ returns-2 c =
     let first = later .before .before .before in
     let a = first .before .before .before .before .args in
     let e = told .verdict .given .1 in
-    (stopped-code (a .m) (a .n) (a .nonzeros) (a .list .now) (a .cap) (a .budget) (a .parts .now) (a .figures .now) _ (first .open .ensures .0) _ _ (later .output-verdict .ensures) (both .and-then .ensures) _ _ e _ (c .refusal-code .ensures), (stopped-parts (a .m) (a .n) (a .nonzeros) (a .list .now) (a .cap) (a .budget) (a .parts .now) (a .figures .now) _ (first .open .ensures .0) _ _ (later .output-verdict .ensures) (both .and-then .ensures) _ _ e, stopped-figures (a .m) (a .n) (a .nonzeros) (a .list .now) (a .cap) (a .budget) (a .parts .now) (a .figures .now) _ (first .open .ensures .0) _ _ (later .output-verdict .ensures) (both .and-then .ensures) _ _ e))
+    (stopped-code (a .m) (a .n) (a .nonzeros) (a .list .now) (capsOf (a .cap0) (a .cap1)) (a .budget) (a .parts .now) (a .figures .now) _ (first .open .ensures .0) _ _ (later .output-verdict .ensures) (both .and-then .ensures) _ _ e _ (c .refusal-code .ensures), (stopped-parts (a .m) (a .n) (a .nonzeros) (a .list .now) (capsOf (a .cap0) (a .cap1)) (a .budget) (a .parts .now) (a .figures .now) _ (first .open .ensures .0) _ _ (later .output-verdict .ensures) (both .and-then .ensures) _ _ e, stopped-figures (a .m) (a .n) (a .nonzeros) (a .list .now) (capsOf (a .cap0) (a .cap1)) (a .budget) (a .parts .now) (a .figures .now) _ (first .open .ensures .0) _ _ (later .output-verdict .ensures) (both .and-then .ensures) _ _ e))
 
 pub gulzoreno-bipartition-spec : {M : Type 1} → statement M
 gulzoreno-bipartition-spec =

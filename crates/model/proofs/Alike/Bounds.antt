@@ -12,6 +12,7 @@ use Rattle.counting.specs.Sums.{count}
 use Rattle.counting.proofs.Joined.{and-eq, or-eq}
 use Rattle.model.specs.declared.Part.{Part}
 use Rattle.model.specs.declared.Part.the-variants.{Zero, One}
+use Rattle.model.specs.declared.Caps.{Caps}
 use Rattle.model.specs.Pattern.{Pattern, lines, rowLine, columnLine, on}
 use Rattle.model.specs.Marking.{Marking}
 use Rattle.model.specs.Bound.{leans, untaken, atStake, untakenOn, falling, leaningCounts, struck, L3, conflict, mostChosen, L4, bound}
@@ -62,13 +63,13 @@ module _ {P Q : Pattern} {μ ν : Marking} (k : AlikeMarks P Q μ ν) where
       (falling (λ x. count (λ l. leans Q ν p l and eqb (untakenOn Q ν l) x) (lines Q)))
       (k .patterns .size-same)
 
-  struck-same : (cap : ℕ) (p : Part) → struck P cap μ p ≡ struck Q cap ν p
+  struck-same : (caps : Caps) (p : Part) → struck P caps μ p ≡ struck Q caps ν p
   unfolding struck
-  struck-same cap p = rw (counts-same p, stake-same p, taken-same k p)
+  struck-same caps p = rw (counts-same p, stake-same p, taken-same k p)
 
-  pub L3-same : (cap : ℕ) → L3 P cap μ ≡ L3 Q cap ν
+  pub L3-same : (caps : Caps) → L3 P caps μ ≡ L3 Q caps ν
   unfolding L3
-  L3-same cap = rw (struck-same cap Zero, struck-same cap One)
+  L3-same caps = rw (struck-same caps Zero, struck-same caps One)
 
   conflict-same : (t : ℕ) → t < P .size → conflict P μ t ≡ conflict Q ν t
   unfolding conflict
@@ -102,6 +103,6 @@ module _ {P Q : Pattern} {μ ν : Marking} (k : AlikeMarks P Q μ ν) where
   unfolding L4
   L4-same = chosen-same (λ l. false) (λ l. false) (P .size) (omega arith) (λ l. refl) ∙ ap (mostChosen Q ν (λ l. false)) (k .patterns .size-same)
 
-  pub bound-same : (cap : ℕ) → bound P cap μ ≡ bound Q cap ν
+  pub bound-same : (caps : Caps) → bound P caps μ ≡ bound Q caps ν
   unfolding bound
-  bound-same cap = rw (L1-same k, L2-same k, L3-same cap, L4-same)
+  bound-same caps = rw (L1-same k, L2-same k, L3-same caps, L4-same)

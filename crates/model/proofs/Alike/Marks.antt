@@ -12,6 +12,7 @@ use Rattle.model.specs.declared.Part.{Part}
 use Rattle.model.specs.declared.Part.the-variants.{Zero, One}
 use Rattle.model.specs.declared.Mark.the-variants.{To}
 use Rattle.model.specs.declared.Condition.{Condition}
+use Rattle.model.specs.declared.Caps.{Caps}
 use Rattle.model.specs.Pattern.{Pattern, Inside, lines, rowLine, columnLine, on}
 use Rattle.model.specs.Marking.{Marking, markNumber, marking, takes, taken, valid, touched, condition}
 use Rattle.model.specs.Bound.{saysCut, saysTorn, saysLeaning, leans, L1, L2, untaken}
@@ -70,9 +71,9 @@ module _ {P Q : Pattern} {μ ν : Marking} (k : AlikeMarks P Q μ ν) where
   unfolding untaken
   untaken-same t b = ap not (or-eq (takes-same Zero t b) (takes-same One t b))
 
-  pub valid-same : (cap : ℕ) → valid P cap μ ≡ valid Q cap ν
+  pub valid-same : (caps : Caps) → valid P caps μ ≡ valid Q caps ν
   unfolding valid
-  valid-same cap =
+  valid-same caps =
       and-eq
       (and-eq
       (ap
@@ -82,8 +83,8 @@ module _ {P Q : Pattern} {μ ν : Marking} (k : AlikeMarks P Q μ ν) where
       (λ t. takes Q ν Zero t and takes Q ν One t)
       (k .patterns .size-same)
       (λ t b. and-eq (takes-same Zero t b) (takes-same One t b))))
-      (ap (λ (x : ℕ). leb x cap) (taken-same Zero)))
-      (ap (λ (x : ℕ). leb x cap) (taken-same One))
+      (ap (λ (x : ℕ). leb x (caps .cap0)) (taken-same Zero)))
+      (ap (λ (x : ℕ). leb x (caps .cap1)) (taken-same One))
 
   touched-same : (p : Part) (l : ℕ) → touched P μ p l ≡ touched Q ν p l
   unfolding touched

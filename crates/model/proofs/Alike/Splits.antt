@@ -9,6 +9,7 @@ use Rattle.counting.specs.Tests.{_and_}
 use Rattle.counting.proofs.Joined.{and-eq}
 use Rattle.model.specs.declared.Part.{Part}
 use Rattle.model.specs.declared.Part.the-variants.{Zero, One}
+use Rattle.model.specs.declared.Caps.{Caps}
 use Rattle.model.specs.Pattern.{Pattern, on}
 use Rattle.model.specs.Split.{Split, Meets, partNumber, samePart, holds, partsOn, volume, load}
 use Rattle.model.specs.Calls.{partBytes}
@@ -63,9 +64,9 @@ module _ {P Q : Pattern} (a : Alike P Q) (σ ρ : Split) (h : Agree P σ ρ) whe
       (a .size-same)
       (λ t b. ap (samePart p) (h t b))
 
-  -- so both meet a cap or neither does
-  pub meets-same : (cap : ℕ) → Meets P cap σ → Meets Q cap ρ
-  meets-same cap k =
+  -- so both meet the caps or neither does
+  pub meets-same : (caps : Caps) → Meets P caps σ → Meets Q caps ρ
+  meets-same caps k =
       record {
         zero-fits = omega (arith, load-same Zero, k .zero-fits);
         one-fits = omega (arith, load-same One, k .one-fits);
@@ -79,5 +80,5 @@ module _ {P Q : Pattern} (a : Alike P Q) where
   pub alike-load : (σ : Split) (p : Part) → load P σ p ≡ load Q σ p
   alike-load σ p = load-same a σ σ (λ t b. refl) p
 
-  pub alike-meets : (cap : ℕ) (σ : Split) → Meets P cap σ → Meets Q cap σ
-  alike-meets cap σ = meets-same a σ σ (λ t b. refl) cap
+  pub alike-meets : (caps : Caps) (σ : Split) → Meets P caps σ → Meets Q caps σ
+  alike-meets caps σ = meets-same a σ σ (λ t b. refl) caps

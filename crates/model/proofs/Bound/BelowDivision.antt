@@ -11,6 +11,7 @@ use Rattle.counting.proofs.Joined.{by-test, clash, and-intro, and-left, and-rig
 use Rattle.counting.proofs.Charged.{three}
 use Rattle.model.specs.declared.Part.{Part}
 use Rattle.model.specs.declared.Part.the-variants.{Zero, One}
+use Rattle.model.specs.declared.Caps.{Caps}
 use Rattle.model.specs.Pattern.{Pattern, Inside, lines, rowLine, columnLine, on}
 use Rattle.model.specs.Marking.{Marking, condition}
 use Rattle.model.specs.Bound.{saysCut, saysTorn, leans, conflict, L1, L2, L3, L4, bound}
@@ -66,9 +67,9 @@ either-both P μ cut =
           }),
     )
 
-module _ {P : Pattern} {cap : ℕ} {μ : Marking} {gives : Part → ℕ → Bool} {cut : ℕ → Bool} (i : Inside P) (d : Division P cap μ gives cut) where
+module _ {P : Pattern} {caps : Caps} {μ : Marking} {gives : Part → ℕ → Bool} {cut : ℕ → Bool} (i : Inside P) (d : Division P caps μ gives cut) where
   -- L3 is at most the number of leaning lines that are cut
-  pub L3-below : L3 P cap μ ≤ count (eitherCut P μ cut) (lines P)
+  pub L3-below : L3 P caps μ ≤ count (eitherCut P μ cut) (lines P)
   unfolding L3
   L3-below =
       omega (
@@ -157,7 +158,7 @@ module _ {P : Pattern} {cap : ℕ} {μ : Marking} {gives : Part → ℕ → Bool
 
 -- the bound is at most the number of cut lines of every division that extends the marking
 pub bound-below-division :
-    (P : Pattern) (cap : ℕ) (μ : Marking) (gives : Part → ℕ → Bool) (cut : ℕ → Bool) →
-    Inside P → Division P cap μ gives cut → bound P cap μ ≤ count cut (lines P)
+    (P : Pattern) (caps : Caps) (μ : Marking) (gives : Part → ℕ → Bool) (cut : ℕ → Bool) →
+    Inside P → Division P caps μ gives cut → bound P caps μ ≤ count cut (lines P)
 unfolding bound
-bound-below-division P cap μ gives cut i d = omega (arith, L3-below i d, L4-below i d, kinds-cut i d)
+bound-below-division P caps μ gives cut i d = omega (arith, L3-below i d, L4-below i d, kinds-cut i d)

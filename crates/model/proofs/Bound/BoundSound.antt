@@ -1,4 +1,4 @@
--- The bound is sound: it is at most the volume of every split that meets the cap and agrees with the marking.
+-- The bound is sound: it is at most the volume of every split that meets both caps and agrees with the marking.
 -- Assumes nothing.
 use mathlib.Core.Bool.{true, false}
 use mathlib.Core.Path.{_≡_}
@@ -7,8 +7,9 @@ use native.Mathlib.Omega.{arith}
 use Rattle.counting.specs.Sums.{count}
 use Rattle.counting.proofs.Joined.{clash, passes}
 use Rattle.model.specs.declared.Part.{Part}
+use Rattle.model.specs.declared.Caps.{Caps}
 use Rattle.model.specs.Pattern.{Pattern, Inside, on}
-use Rattle.model.specs.Split.{Split, Meets, other, samePart, isCut, load, volume}
+use Rattle.model.specs.Split.{Split, Meets, other, samePart, isCut, load, volume, capOf}
 use Rattle.model.specs.Marking.{Marking, Agrees}
 use Rattle.model.specs.Bound.{bound}
 use Rattle.model.proofs.Split.Parts.{same-of-eq, same-once, same-other, holds-intro, cut-of-both, part-fits}
@@ -29,30 +30,30 @@ split-whole P σ p l s t uncut b c g h e =
 
 -- the load of a part is the number of nonzeros that go to it
 split-fits :
-    (P : Pattern) (cap : ℕ) (σ : Split) (p : Part) → Meets P cap σ → count (λ t. samePart p (σ t)) (P .size) ≤ cap
+    (P : Pattern) (caps : Caps) (σ : Split) (p : Part) → Meets P caps σ → count (λ t. samePart p (σ t)) (P .size) ≤ capOf caps p
 unfolding load
-split-fits P cap σ p meets = part-fits P cap σ p meets
+split-fits P caps σ p meets = part-fits P caps σ p meets
 
--- a split that meets the cap and agrees with a marking is a division that extends it
+-- a split that meets both caps and agrees with a marking is a division that extends it
 pub split-division :
-    (P : Pattern) (cap : ℕ) (μ : Marking) (σ : Split) →
-    Meets P cap σ → Agrees P μ σ → Division P cap μ (λ p t. samePart p (σ t)) (isCut P σ)
-split-division P cap μ σ meets agrees =
+    (P : Pattern) (caps : Caps) (μ : Marking) (σ : Split) →
+    Meets P caps σ → Agrees P μ σ → Division P caps μ (λ p t. samePart p (σ t)) (isCut P σ)
+split-division P caps μ σ meets agrees =
     record {
       taken-given = λ p t b h. same-of-eq p (σ t) (agrees .in-part p t b h);
       marked-cut = agrees .cut-line;
       once = λ t b h. same-once (σ t) h;
-      fits = λ p. split-fits P cap σ p meets;
+      fits = λ p. split-fits P caps σ p meets;
       whole = λ p l s t b. split-whole P σ p l s t;
     }
 
--- the bound is at most the volume of every split that meets the cap and agrees with the marking
+-- the bound is at most the volume of every split that meets both caps and agrees with the marking
 pub bound-sound :
-    (P : Pattern) (cap : ℕ) (μ : Marking) (σ : Split) →
-    Inside P → Meets P cap σ → Agrees P μ σ → bound P cap μ ≤ volume P σ
-bound-sound P cap μ σ i meets agrees =
+    (P : Pattern) (caps : Caps) (μ : Marking) (σ : Split) →
+    Inside P → Meets P caps σ → Agrees P μ σ → bound P caps μ ≤ volume P σ
+bound-sound P caps μ σ i meets agrees =
     omega (
       arith,
       volume-is-cuts P σ,
-      bound-below-division P cap μ (λ p t. samePart p (σ t)) (isCut P σ) i (split-division P cap μ σ meets agrees),
+      bound-below-division P caps μ (λ p t. samePart p (σ t)) (isCut P σ) i (split-division P caps μ σ meets agrees),
     )

@@ -10,27 +10,29 @@ use Rattle.counting.proofs.Counted.{any-elim}
 use Rattle.model.specs.declared.Part.{Part}
 use Rattle.model.specs.declared.Part.the-variants.{Zero, One}
 use Rattle.model.specs.declared.Mark.the-variants.{Cut}
+use Rattle.model.specs.declared.Caps.{Caps}
 use Rattle.model.specs.Pattern.{Pattern, lines, on}
+use Rattle.model.specs.Split.{capOf}
 use Rattle.model.specs.Marking.{Marking, markNumber, takes, touched, condition}
 use Rattle.model.specs.Bound.{saysCut, saysTorn, leans}
 use Rattle.model.proofs.Bound.Conditions.{cut-marked, torn-line, leaning-line}
 
 -- a division that extends a marking: `gives p t`, nonzero t goes to p; `cut l`, line l is cut
-pub record Division (P : Pattern) (cap : ℕ) (μ : Marking) (gives : Part → ℕ → Bool) (cut : ℕ → Bool) : Type 0 where
+pub record Division (P : Pattern) (caps : Caps) (μ : Marking) (gives : Part → ℕ → Bool) (cut : ℕ → Bool) : Type 0 where
   -- a nonzero taken by p goes to p
   pub taken-given : (p : Part) (t : ℕ) → t < P .size → takes P μ p t ≡ true → gives p t ≡ true
   -- a line with mark cut is cut
   pub marked-cut : (l : ℕ) → l < lines P → μ l ≡ markNumber Cut → cut l ≡ true
   -- no nonzero goes to both parts
   pub once : (t : ℕ) → t < P .size → gives Zero t ≡ true → gives One t ≡ false
-  -- a part has at most cap nonzeros
-  pub fits : (p : Part) → count (gives p) (P .size) ≤ cap
+  -- a part has at most its cap of nonzeros
+  pub fits : (p : Part) → count (gives p) (P .size) ≤ capOf caps p
   -- a line that is not cut has all its nonzeros in the part of one of them
   pub whole :
       (p : Part) (l s t : ℕ) → l < lines P → cut l ≡ false → s < P .size → t < P .size →
       on P l s ≡ true → on P l t ≡ true → gives p s ≡ true → gives p t ≡ true
 
-module _ {P : Pattern} {cap : ℕ} {μ : Marking} {gives : Part → ℕ → Bool} {cut : ℕ → Bool} (d : Division P cap μ gives cut) where
+module _ {P : Pattern} {caps : Caps} {μ : Marking} {gives : Part → ℕ → Bool} {cut : ℕ → Bool} (d : Division P caps μ gives cut) where
   -- a line with a nonzero taken by p has a nonzero that goes to p
   touched-gives :
       (p : Part) (l : ℕ) → touched P μ p l ≡ true →

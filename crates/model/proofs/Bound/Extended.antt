@@ -14,6 +14,7 @@ use Rattle.counting.proofs.Counted.{count-mono}
 use Rattle.model.specs.declared.Part.{Part}
 use Rattle.model.specs.declared.Part.the-variants.{Zero, One}
 use Rattle.model.specs.declared.Mark.the-variants.{To, Cut}
+use Rattle.model.specs.declared.Caps.{Caps}
 use Rattle.model.specs.Pattern.{Pattern, Inside, lines, rowLine, columnLine, on, nonempty}
 use Rattle.model.specs.Marking.{Marking, markNumber, unmarked, takes, valid}
 use Rattle.model.specs.Bound.{bound}
@@ -85,9 +86,9 @@ module _ {P : Pattern} {μ ν : Marking} (i : Inside P) (x : Extends P μ ν) wh
 
 -- validity is inherited by what a marking extends
 pub valid-begins :
-    (P : Pattern) (cap : ℕ) (μ ν : Marking) → Inside P → Extends P μ ν → valid P cap ν ≡ true → valid P cap μ ≡ true
-valid-begins P cap μ ν i x h =
-    is-valid P cap μ (record {
+    (P : Pattern) (caps : Caps) (μ ν : Marking) → Inside P → Extends P μ ν → valid P caps ν ≡ true → valid P caps μ ≡ true
+valid-begins P caps μ ν i x h =
+    is-valid P caps μ (record {
       once = λ t b e. fails
           (takes P μ One t)
           (λ o. clash (takes-kept i x One t b o) (f .once t b (takes-kept i x Zero t b e)));
@@ -98,20 +99,20 @@ valid-begins P cap μ ν i x h =
       );
     })
   where
-    f : Valid P cap ν
-    f = valid-is P cap ν h
+    f : Valid P caps ν
+    f = valid-is P caps ν h
 
 -- a line of a valid marking that is marked, and not cut, has all its nonzeros taken by the part of one of them
 marked-whole :
-    (P : Pattern) (cap : ℕ) (ν : Marking) → Valid P cap ν →
+    (P : Pattern) (caps : Caps) (ν : Marking) → Valid P caps ν →
     (p : Part) (l s t : ℕ) → ν l < unmarked → eqb (ν l) (markNumber Cut) ≡ false → s < P .size →
     on P l s ≡ true → on P l t ≡ true → takes P ν p s ≡ true → takes P ν p t ≡ true
-marked-whole P cap ν f Zero l s t m uncut b g h e =
+marked-whole P caps ν f Zero l s t m uncut b g h e =
     ⊎-elim
     (λ z. marked-takes P ν Zero l t h z)
     (λ o. clash (marked-takes P ν One l s g o) (f .once s b e))
     (part-mark (ν l) m uncut)
-marked-whole P cap ν f One l s t m uncut b g h e =
+marked-whole P caps ν f One l s t m uncut b g h e =
     ⊎-elim
     (λ z. clash e (f .once s b (marked-takes P ν Zero l s g z)))
     (λ o. marked-takes P ν One l t h o)
@@ -119,25 +120,25 @@ marked-whole P cap ν f One l s t m uncut b g h e =
 
 -- a valid marking that extends μ and marks every line with nonzeros is a division that extends μ
 pub marking-division :
-    (P : Pattern) (cap : ℕ) (μ ν : Marking) →
-    Inside P → Extends P μ ν → Marks P ν → valid P cap ν ≡ true →
-    Division P cap μ (takes P ν) (λ l. eqb (ν l) (markNumber Cut))
-marking-division P cap μ ν i x m h =
+    (P : Pattern) (caps : Caps) (μ ν : Marking) →
+    Inside P → Extends P μ ν → Marks P ν → valid P caps ν ≡ true →
+    Division P caps μ (takes P ν) (λ l. eqb (ν l) (markNumber Cut))
+marking-division P caps μ ν i x m h =
     record {
       taken-given = takes-kept i x;
       marked-cut = cut-kept i x;
       once = f .once;
       fits = f .fits;
-      whole = λ p l s t b uncut c d g e. marked-whole P cap ν f p l s t (m .marked l b (on-nonempty P l s c g)) uncut c g e;
+      whole = λ p l s t b uncut c d g e. marked-whole P caps ν f p l s t (m .marked l b (on-nonempty P l s c g)) uncut c g e;
     }
   where
-    f : Valid P cap ν
-    f = valid-is P cap ν h
+    f : Valid P caps ν
+    f = valid-is P caps ν h
 
 -- the bound of μ is at most the number of lines marked cut in every such marking
 pub bound-below-marking :
-    (P : Pattern) (cap : ℕ) (μ ν : Marking) →
-    Inside P → Extends P μ ν → Marks P ν → valid P cap ν ≡ true →
-    bound P cap μ ≤ count (λ l. eqb (ν l) (markNumber Cut)) (lines P)
-bound-below-marking P cap μ ν i x m h =
-    bound-below-division P cap μ (takes P ν) (λ l. eqb (ν l) (markNumber Cut)) i (marking-division P cap μ ν i x m h)
+    (P : Pattern) (caps : Caps) (μ ν : Marking) →
+    Inside P → Extends P μ ν → Marks P ν → valid P caps ν ≡ true →
+    bound P caps μ ≤ count (λ l. eqb (ν l) (markNumber Cut)) (lines P)
+bound-below-marking P caps μ ν i x m h =
+    bound-below-division P caps μ (takes P ν) (λ l. eqb (ν l) (markNumber Cut)) i (marking-division P caps μ ν i x m h)

@@ -14,7 +14,9 @@ use Rattle.counting.proofs.Counted.{count-mono, count-some, count-none, count-s
 use Rattle.counting.proofs.Charged.{charge}
 use Rattle.model.specs.declared.Part.{Part}
 use Rattle.model.specs.declared.Part.the-variants.{Zero, One}
+use Rattle.model.specs.declared.Caps.{Caps}
 use Rattle.model.specs.Pattern.{Pattern, Inside, lines, rowLine, columnLine, on}
+use Rattle.model.specs.Split.{capOf}
 use Rattle.model.specs.Marking.{Marking, takes, taken}
 use Rattle.model.specs.Bound.{leans, untaken, untakenOn, atStake}
 use Rattle.model.proofs.Split.Lines.{on-row, on-column, on-line-in}
@@ -80,7 +82,7 @@ line-pays P μ cut p l =
           (λ t b. and-fails-left (on P l t and untaken P μ t) e),
     ))
 
-module _ {P : Pattern} {cap : ℕ} {μ : Marking} {gives : Part → ℕ → Bool} {cut : ℕ → Bool} (i : Inside P) (d : Division P cap μ gives cut) (p : Part) where
+module _ {P : Pattern} {caps : Caps} {μ : Marking} {gives : Part → ℕ → Bool} {cut : ℕ → Bool} (i : Inside P) (d : Division P caps μ gives cut) (p : Part) where
   -- taken nonzeros and those at stake that stay in p are all in p
   kept-fits : taken P μ p + count (λ t. stakes P μ p t and gives p t) (P .size) ≤ count (gives p) (P .size)
   unfolding taken
@@ -179,7 +181,7 @@ module _ {P : Pattern} {cap : ℕ} {μ : Marking} {gives : Part → ℕ → Bool
 
   -- what is at stake fits the room and the lines that lean to p and are cut
   pub stake-fits :
-      atStake P μ p ≤ (cap - taken P μ p) + sum (λ l. untakenOn P μ l * bit (leansCut P μ cut p l)) (lines P)
+      atStake P μ p ≤ (capOf caps p - taken P μ p) + sum (λ l. untakenOn P μ l * bit (leansCut P μ cut p l)) (lines P)
   stake-fits =
       omega (
         arith,

@@ -11,7 +11,9 @@ use Rattle.counting.proofs.Joined.{and-intro, and-left, and-right}
 use Rattle.counting.proofs.Counted.{count-mono, count-most}
 use Rattle.counting.proofs.Grouped.{sum-by-value, count-by-value}
 use Rattle.model.specs.declared.Part.{Part}
+use Rattle.model.specs.declared.Caps.{Caps}
 use Rattle.model.specs.Pattern.{Pattern, Inside, lines, on}
+use Rattle.model.specs.Split.{capOf}
 use Rattle.model.specs.Marking.{Marking, taken}
 use Rattle.model.specs.Bound.{leans, untaken, untakenOn, atStake, falling, leaningCounts, struck}
 use Rattle.model.proofs.Bound.Division.{Division}
@@ -60,13 +62,13 @@ paid-most P μ cut p =
 
 -- the number struck for p is at most the number of lines that lean to p and are cut
 pub struck-cut :
-    {P : Pattern} {cap : ℕ} {μ : Marking} {gives : Part → ℕ → Bool} {cut : ℕ → Bool} →
-    Inside P → Division P cap μ gives cut → (p : Part) → struck P cap μ p ≤ count (leansCut P μ cut p) (lines P)
+    {P : Pattern} {caps : Caps} {μ : Marking} {gives : Part → ℕ → Bool} {cut : ℕ → Bool} →
+    Inside P → Division P caps μ gives cut → (p : Part) → struck P caps μ p ≤ count (leansCut P μ cut p) (lines P)
 unfolding struck
-struck-cut {P} {cap} {μ} {gives} {cut} i d p =
+struck-cut {P} {caps} {μ} {gives} {cut} i d p =
     strikes-least
     (leaningCounts P μ p)
     (count (leansCut P μ cut p) (lines P))
     (atStake P μ p)
-    (cap - taken P μ p)
+    (capOf caps p - taken P μ p)
     (omega (arith, stake-fits i d p, paid-most P μ cut p))

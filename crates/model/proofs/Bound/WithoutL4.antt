@@ -7,6 +7,7 @@ use lib.Dec.{eqb}
 use Rattle.counting.specs.Sums.{count}
 use Rattle.counting.proofs.Counted.{count-eq}
 use Rattle.model.specs.declared.Mark.the-variants.{Cut}
+use Rattle.model.specs.declared.Caps.{Caps}
 use Rattle.model.specs.Pattern.{Pattern, lines}
 use Rattle.model.specs.Marking.{Marking, markNumber, condition}
 use Rattle.model.specs.Bound.{saysCut, L1, L2, L3, bound}
@@ -23,20 +24,20 @@ L1-is P μ =
     (λ l b. cut-is P μ l)
 
 -- L1 is at most the bound
-pub L1-below-bound : (P : Pattern) (cap : ℕ) (μ : Marking) → L1 P μ ≤ bound P cap μ
+pub L1-below-bound : (P : Pattern) (caps : Caps) (μ : Marking) → L1 P μ ≤ bound P caps μ
 unfolding bound
-L1-below-bound P cap μ = omega arith
+L1-below-bound P caps μ = omega arith
 
 -- the bound with L4 left out
-unfoldable pub boundWithoutL4 : Pattern → ℕ → Marking → ℕ
-boundWithoutL4 P cap μ = L1 P μ + L2 P μ + L3 P cap μ
+unfoldable pub boundWithoutL4 : Pattern → Caps → Marking → ℕ
+boundWithoutL4 P caps μ = L1 P μ + L2 P μ + L3 P caps μ
 
 -- it is at most the bound
-pub without-below : (P : Pattern) (cap : ℕ) (μ : Marking) → boundWithoutL4 P cap μ ≤ bound P cap μ
+pub without-below : (P : Pattern) (caps : Caps) (μ : Marking) → boundWithoutL4 P caps μ ≤ bound P caps μ
 unfolding bound boundWithoutL4
-without-below P cap μ = omega arith
+without-below P caps μ = omega arith
 
 -- L1 is at most it
-pub L1-below-without : (P : Pattern) (cap : ℕ) (μ : Marking) → L1 P μ ≤ boundWithoutL4 P cap μ
+pub L1-below-without : (P : Pattern) (caps : Caps) (μ : Marking) → L1 P μ ≤ boundWithoutL4 P caps μ
 unfolding boundWithoutL4
-L1-below-without P cap μ = omega arith
+L1-below-without P caps μ = omega arith

@@ -1,24 +1,26 @@
--- A split with its parts exchanged has the same volume and loads. Of the two, one has a marking that is legal.
+-- A split with its parts exchanged has the same volume, and meets the caps exchanged. With equal caps one of the two has a marking that is
+-- legal; with unequal caps every split has.
 -- Assumes nothing.
 use mathlib.Core.Bool.{Bool, true, false, not}
 use mathlib.Core.List.{List, [], _∷_}
-use mathlib.Core.Path.{_≡_, refl, sym, _∙_, ap}
+use mathlib.Core.Path.{_≡_, refl, sym, _∙_, ap, ap₂, subst}
 use mathlib.Core.Logic.{_⊎_, inl, inr, ⊎-elim}
 use Prim.Native.Nat.{ℕ, zero, suc, _≤_, _<_}
 use native.Mathlib.Omega.{arith}
 use lib.Dec.{eqb, ltb}
-use borrow.Author.Tests.{eqb-true}
+use borrow.Author.Tests.{eqb-true, not-false}
 use Rattle.counting.specs.Tests.{_and_, _or_}
 use Rattle.counting.specs.Sums.{any}
 use Rattle.counting.proofs.Joined.{clash, by-test, and-intro, or-left, or-right, or-fails-left, or-fails-right, and-turned}
 use Rattle.counting.proofs.Counted.{count-eq}
 use Rattle.model.specs.declared.Part.{Part}
 use Rattle.model.specs.declared.Part.the-variants.{Zero, One}
+use Rattle.model.specs.declared.Caps.{Caps}
 use Rattle.model.specs.Pattern.{Pattern, Inside, lines, on, nonempty, lineTotal}
-use Rattle.model.specs.Split.{Split, Meets, other, samePart, holds, isCut, volume, load}
+use Rattle.model.specs.Split.{Split, Meets, capsOf, exchanged, unequal, other, samePart, holds, isCut, volume, load}
 use Rattle.model.specs.Marking.{Marking}
 use Rattle.model.specs.Walk.{Rules, cuts, givesPart, oneAllowed}
-use Rattle.model.specs.State.{stack, startsWithZero}
+use Rattle.model.specs.State.{stack, onesAllowed}
 use Rattle.model.proofs.Split.Volume.{volume-is-cuts, nonempty-held}
 use Rattle.model.proofs.Walk.Sound.{Full}
 use Rattle.model.proofs.Order.Places.{lineAt, line-at}
@@ -45,10 +47,17 @@ mirrored-load P σ p =
     (P .size)
     (λ t b. same-other-way p (σ t))
 
--- it meets the same caps
-pub mirrored-meets : (P : Pattern) (cap : ℕ) (σ : Split) → Meets P cap σ → Meets P cap (mirrored σ)
-unfolding other
-mirrored-meets P cap σ meets =
+-- equal caps exchanged are the same
+equal-exchanged : (caps : Caps) → unequal caps ≡ false → exchanged caps ≡ caps
+unfolding exchanged unequal
+equal-exchanged caps same =
+    let e = eqb-true (caps .cap0) (caps .cap1) (not-false (eqb (caps .cap0) (caps .cap1)) same) in
+    ap₂ capsOf (sym e) e
+
+-- it meets the caps exchanged, since its loads are exchanged
+pub mirrored-meets : (P : Pattern) (caps : Caps) (σ : Split) → Meets P caps σ → Meets P (exchanged caps) (mirrored σ)
+unfolding other exchanged
+mirrored-meets P caps σ meets =
     record {
       zero-fits = omega (arith, mirrored-load P σ Zero, meets .one-fits);
       one-fits = omega (arith, mirrored-load P σ One, meets .zero-fits);
@@ -122,26 +131,6 @@ mirrored-marks P σ =
     (lineTotal P)
     (λ i b. mirrored-mark P σ (lineAt P i) (line-at P i b .some))
 
--- marks without a part are legal as they stand
-starts-without : (τ : List ℕ) → givesPart τ ≡ false → startsWithZero τ ≡ true
-unfolding givesPart startsWithZero
-starts-without [] h = refl
-starts-without (x ∷ τ) h =
-    let parts = or-fails-left (eqb x 0 or eqb x 1) (givesPart τ) h in
-    and-intro
-    (or-left (oneAllowed τ) (ap not (or-fails-right (eqb x 0) (eqb x 1) parts)))
-    (starts-without τ (or-fails-right (eqb x 0 or eqb x 1) (givesPart τ) h))
-
--- behind a part every mark is allowed
-starts-behind : (x : ℕ) (τ : List ℕ) → givesPart τ ≡ true → startsWithZero τ ≡ true → startsWithZero (x ∷ τ) ≡ true
-unfolding startsWithZero oneAllowed
-starts-behind x τ h s = and-intro (or-right (not (eqb x 1)) h) s
-
--- a mark other than 1 is allowed everywhere
-starts-other : (x : ℕ) (τ : List ℕ) → eqb x 1 ≡ false → startsWithZero τ ≡ true → startsWithZero (x ∷ τ) ≡ true
-unfolding startsWithZero
-starts-other x τ h s = and-intro (or-left (oneAllowed τ) (ap not h)) s
-
 turned-gives : (x : ℕ) → eqb (turned x) 0 or eqb (turned x) 1 ≡ eqb x 0 or eqb x 1
 unfolding turned _or_
 turned-gives zero = refl
@@ -163,57 +152,94 @@ turned-one : (x : ℕ) → x ≡ 1 → eqb (turned x) 1 ≡ false
 unfolding turned
 turned-one x e = ap (λ (y : ℕ). eqb (turned y) 1) e
 
--- some marks, or the same with 0 and 1 exchanged, have 0 as the first other than cut
-pub starts-either :
-    (f : ℕ → ℕ) (d : ℕ) →
-    (startsWithZero (stack f d) ≡ true) ⊎ (startsWithZero (stack (λ i. turned (f i)) d) ≡ true)
-unfolding stack
-starts-either f zero = inl (starts-without [] gives-none)
-starts-either f (suc d) =
-    by-test
-    (givesPart (stack f d))
-    (λ part. ⊎-elim
-    (λ s. inl (starts-behind (f d) (stack f d) part s))
-    (λ s. inr (starts-behind (turned (f d)) (stack (λ i. turned (f i)) d) (gives-turned f d ∙ part) s))
-    (starts-either f d))
-    (λ none. by-test
-    (eqb (f d) 1)
-    (λ one. inr (starts-other
-    (turned (f d))
-    (stack (λ i. turned (f i)) d)
-    (turned-one (f d) (eqb-true (f d) 1 one))
-    (starts-without (stack (λ i. turned (f i)) d) (gives-turned f d ∙ none))))
-    (λ more. inl (starts-other (f d) (stack f d) more (starts-without (stack f d) none))))
+-- mark 1 may come first or not
+module _ (first : Bool) where
+  -- marks without a part are legal as they stand
+  ones-without : (τ : List ℕ) → givesPart τ ≡ false → onesAllowed first τ ≡ true
+  unfolding givesPart onesAllowed
+  ones-without [] h = refl
+  ones-without (x ∷ τ) h =
+      let parts = or-fails-left (eqb x 0 or eqb x 1) (givesPart τ) h in
+      and-intro
+      (or-left (oneAllowed first τ) (ap not (or-fails-right (eqb x 0) (eqb x 1) parts)))
+      (ones-without τ (or-fails-right (eqb x 0 or eqb x 1) (givesPart τ) h))
 
--- a marking of a split that meets the cap is full if it starts with 0
+  -- behind a part every mark is allowed
+  ones-behind : (x : ℕ) (τ : List ℕ) → givesPart τ ≡ true → onesAllowed first τ ≡ true → onesAllowed first (x ∷ τ) ≡ true
+  unfolding onesAllowed oneAllowed
+  ones-behind x τ h s = and-intro (or-right (not (eqb x 1)) (or-right first h)) s
+
+  -- a mark other than 1 is allowed everywhere
+  ones-other : (x : ℕ) (τ : List ℕ) → eqb x 1 ≡ false → onesAllowed first τ ≡ true → onesAllowed first (x ∷ τ) ≡ true
+  unfolding onesAllowed
+  ones-other x τ h s = and-intro (or-left (oneAllowed first τ) (ap not h)) s
+
+  -- some marks, or the same with 0 and 1 exchanged, have mark 1 only where it is allowed
+  pub ones-either :
+      (f : ℕ → ℕ) (d : ℕ) →
+      (onesAllowed first (stack f d) ≡ true) ⊎ (onesAllowed first (stack (λ i. turned (f i)) d) ≡ true)
+  unfolding stack
+  ones-either f zero = inl (ones-without [] gives-none)
+  ones-either f (suc d) =
+      by-test
+      (givesPart (stack f d))
+      (λ part. ⊎-elim
+      (λ s. inl (ones-behind (f d) (stack f d) part s))
+      (λ s. inr (ones-behind (turned (f d)) (stack (λ i. turned (f i)) d) (gives-turned f d ∙ part) s))
+      (ones-either f d))
+      (λ none. by-test
+      (eqb (f d) 1)
+      (λ one. inr (ones-other
+      (turned (f d))
+      (stack (λ i. turned (f i)) d)
+      (turned-one (f d) (eqb-true (f d) 1 one))
+      (ones-without (stack (λ i. turned (f i)) d) (gives-turned f d ∙ none))))
+      (λ more. inl (ones-other (f d) (stack f d) more (ones-without (stack f d) none))))
+
+-- where mark 1 may come first, all marks are allowed
+ones-everywhere : (τ : List ℕ) → onesAllowed true τ ≡ true
+unfolding onesAllowed oneAllowed _or_
+ones-everywhere [] = refl
+ones-everywhere (x ∷ τ) = and-intro (or-right (not (eqb x 1)) refl) (ones-everywhere τ)
+
+-- a marking of a split that meets the caps is full if its marks are allowed
 split-full :
-    (P : Pattern) (cap : ℕ) (β : Marking → ℕ) (σ : Split) → Inside P → Meets P cap σ →
-    startsWithZero (splitMarks P σ) ≡ true → Full (rulesBy P cap β) (splitMarks P σ)
+    (P : Pattern) (caps : Caps) (β : Marking → ℕ) (σ : Split) → Inside P → Meets P caps σ →
+    onesAllowed (unequal caps) (splitMarks P σ) ≡ true → Full (rulesBy P caps β) (splitMarks P σ)
 unfolding rulesBy splitMarks
-split-full P cap β σ i meets s =
+split-full P caps β σ i meets s =
     record {
       long = stack-length (λ j. splitMark P σ (lineAt P j)) (lineTotal P);
       marks = stack-marks (λ j. splitMark P σ (lineAt P j)) (lineTotal P) (λ j. split-mark-small P σ (lineAt P j));
-      starts = s;
-      fits = split-valid P cap σ i meets;
+      allowed = s;
+      fits = split-valid P caps σ i meets;
     }
 
--- for every split that meets the cap there is a full marking that cuts no more lines
+-- for every split that meets the caps there is a full marking that cuts no more lines
 pub record Marked (R : Rules) (most : ℕ) : Type 0 where
   pub marks : List ℕ
   pub full : Full R marks
   pub few : cuts marks ≤ most
 
 pub split-marked :
-    (P : Pattern) (cap : ℕ) (β : Marking → ℕ) (σ : Split) →
-    Inside P → Meets P cap σ → Marked (rulesBy P cap β) (volume P σ)
+    (P : Pattern) (caps : Caps) (β : Marking → ℕ) (σ : Split) →
+    Inside P → Meets P caps σ → Marked (rulesBy P caps β) (volume P σ)
 unfolding splitMarks
-split-marked P cap β σ i meets =
-    ⊎-elim
-    (λ s. record { marks = splitMarks P σ; full = split-full P cap β σ i meets s; few = split-cuts P σ })
+split-marked P caps β σ i meets =
+    by-test
+    (unequal caps)
+    (λ apart. as-it-is (ap (λ (first : Bool). onesAllowed first (splitMarks P σ)) apart ∙ ones-everywhere (splitMarks P σ)))
+    (λ same. ⊎-elim
+    as-it-is
     (λ s. record {
       marks = splitMarks P (mirrored σ);
-      full = split-full P cap β (mirrored σ) i (mirrored-meets P cap σ meets) (ap startsWithZero (mirrored-marks P σ) ∙ s);
+      full = split-full P caps β (mirrored σ) i (turned-meets same) (ap (onesAllowed (unequal caps)) (mirrored-marks P σ) ∙ s);
       few = omega (arith, split-cuts P (mirrored σ), mirrored-volume P σ);
     })
-    (starts-either (λ j. splitMark P σ (lineAt P j)) (lineTotal P))
+    (ones-either (unequal caps) (λ j. splitMark P σ (lineAt P j)) (lineTotal P)))
+  where
+    as-it-is : onesAllowed (unequal caps) (splitMarks P σ) ≡ true → Marked (rulesBy P caps β) (volume P σ)
+    as-it-is s = record { marks = splitMarks P σ; full = split-full P caps β σ i meets s; few = split-cuts P σ }
+
+    turned-meets : unequal caps ≡ false → Meets P caps (mirrored σ)
+    turned-meets same = subst (λ (c : Caps). Meets P c (mirrored σ)) (equal-exchanged caps same) (mirrored-meets P caps σ meets)

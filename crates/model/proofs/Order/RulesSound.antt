@@ -1,4 +1,4 @@
--- The rules of a pattern and a cap are sound, and so are those with any bound from L1 up to the bound.
+-- The rules of a pattern and its caps are sound, and so are those with any bound from L1 up to the bound.
 -- Assumes nothing.
 use mathlib.Core.Bool.{true, false}
 use mathlib.Core.List.{List, _∷_}
@@ -13,7 +13,9 @@ use Rattle.counting.proofs.Counted.{count-none}
 use Rattle.model.specs.declared.Part.{Part}
 use Rattle.model.specs.declared.Part.the-variants.{Zero, One}
 use Rattle.model.specs.declared.Mark.the-variants.{To}
+use Rattle.model.specs.declared.Caps.{Caps}
 use Rattle.model.specs.Pattern.{Pattern, Inside, rowLine, columnLine, lineTotal}
+use Rattle.model.specs.Split.{unequal}
 use Rattle.model.specs.Marking.{Marking, markNumber, place, markAt, marking, takes, valid}
 use Rattle.model.specs.Bound.{L1, bound}
 use Rattle.model.specs.Walk.{Rules, rulesOf}
@@ -35,12 +37,12 @@ unfolding takes
 takes-none P ν p t h =
     or-fails (no-part (ν (rowLine P t)) p (h (rowLine P t))) (no-part (ν (columnLine P t)) p (h (columnLine P t)))
 
--- and is valid under every cap
-pub takes-none-valid : (P : Pattern) (cap : ℕ) (ν : Marking) → ((l : ℕ) → 2 ≤ ν l) → valid P cap ν ≡ true
-takes-none-valid P cap ν h =
+-- and is valid under all caps
+pub takes-none-valid : (P : Pattern) (caps : Caps) (ν : Marking) → ((l : ℕ) → 2 ≤ ν l) → valid P caps ν ≡ true
+takes-none-valid P caps ν h =
     is-valid
     P
-    cap
+    caps
     ν
     (record {
       once = λ t b e. takes-none P ν One t h;
@@ -64,30 +66,31 @@ all-cut-lines : (P : Pattern) (l : ℕ) → 2 ≤ marking P (replicate (lineTota
 unfolding marking
 all-cut-lines P l = all-cut-high (lineTotal P) (place P l)
 
--- the rules of a pattern and a cap with another bound
-unfoldable pub rulesBy : Pattern → ℕ → (Marking → ℕ) → Rules
-rulesBy P cap β =
+-- the rules of a pattern and its caps with another bound
+unfoldable pub rulesBy : Pattern → Caps → (Marking → ℕ) → Rules
+rulesBy P caps β =
     record {
       k = lineTotal P;
-      valid = λ trail. valid P cap (marking P trail);
+      oneFirst = unequal caps;
+      valid = λ trail. valid P caps (marking P trail);
       bound = λ trail. β (marking P trail);
     }
 
 -- a bound from L1 up to the bound is sound
 pub rules-by-sound :
-    (P : Pattern) (cap : ℕ) (β : Marking → ℕ) → Inside P →
-    ((μ : Marking) → L1 P μ ≤ β μ) → ((μ : Marking) → β μ ≤ bound P cap μ) → Sound (rulesBy P cap β)
+    (P : Pattern) (caps : Caps) (β : Marking → ℕ) → Inside P →
+    ((μ : Marking) → L1 P μ ≤ β μ) → ((μ : Marking) → β μ ≤ bound P caps μ) → Sound (rulesBy P caps β)
 unfolding rulesBy cutLine
-rules-by-sound P cap β i low high =
+rules-by-sound P caps β i low high =
     record {
       beginning = λ τ ν b f.
           let x = begins-extends P b in
           let m = full-marks P ν (f .long) (f .marks) in (
-            valid-begins P cap (marking P τ) (marking P ν) i x (f .fits),
+            valid-begins P caps (marking P τ) (marking P ν) i x (f .fits),
             omega (
               arith,
               high (marking P τ),
-              bound-below-marking P cap (marking P τ) (marking P ν) i x m (f .fits),
+              bound-below-marking P caps (marking P τ) (marking P ν) i x m (f .fits),
               cut-lines-most P ν,
             ),
           );
@@ -98,11 +101,11 @@ rules-by-sound P cap β i low high =
             L1-is P (marking P ν),
             cut-lines-least P ν (omega (arith, f .long)),
           );
-      all-cut = takes-none-valid P cap (marking P (replicate (lineTotal P) 2)) (all-cut-lines P);
+      all-cut = takes-none-valid P caps (marking P (replicate (lineTotal P) 2)) (all-cut-lines P);
     }
 
--- the rules of a pattern and a cap are sound
-pub rules-sound : (P : Pattern) (cap : ℕ) → Inside P → Sound (rulesOf P cap)
+-- the rules of a pattern and its caps are sound
+pub rules-sound : (P : Pattern) (caps : Caps) → Inside P → Sound (rulesOf P caps)
 unfolding rulesOf rulesBy
-rules-sound P cap i =
-    rules-by-sound P cap (bound P cap) i (L1-below-bound P cap) (λ μ. omega arith)
+rules-sound P caps i =
+    rules-by-sound P caps (bound P caps) i (L1-below-bound P caps) (λ μ. omega arith)

@@ -18,6 +18,7 @@ use Rattle.counting.proofs.Charged.{count-inj}
 use Rattle.model.specs.declared.Part.{Part}
 use Rattle.model.specs.declared.Part.the-variants.{Zero, One}
 use Rattle.model.specs.declared.Mark.the-variants.{To, Cut}
+use Rattle.model.specs.declared.Caps.{Caps}
 use Rattle.model.specs.Pattern.{Pattern, Inside, lines, rowLine, columnLine, on, nonempty, lineTotal}
 use Rattle.model.specs.Split.{Split, Meets, partNumber, samePart, holds, isCut, volume, load}
 use Rattle.model.specs.Marking.{markNumber, place, markAt, marking, takes, valid}
@@ -157,14 +158,14 @@ split-takes P σ i p t b h =
         o
         (sym (split-marking P σ l c (on-nonempty P l t b o)) ∙ eqb-true (marking P (splitMarks P σ) l) (partNumber p) e)
 
--- the marking of a split that meets the cap is valid
+-- the marking of a split that meets both caps is valid
 pub split-valid :
-    (P : Pattern) (cap : ℕ) (σ : Split) → Inside P → Meets P cap σ → valid P cap (marking P (splitMarks P σ)) ≡ true
+    (P : Pattern) (caps : Caps) (σ : Split) → Inside P → Meets P caps σ → valid P caps (marking P (splitMarks P σ)) ≡ true
 unfolding load
-split-valid P cap σ i meets =
+split-valid P caps σ i meets =
     is-valid
     P
-    cap
+    caps
     (marking P (splitMarks P σ))
     (record {
       once = λ t b e. fails
@@ -172,7 +173,7 @@ split-valid P cap σ i meets =
           (λ d. two-parts (sym (split-takes P σ i Zero t b e) ∙ split-takes P σ i One t b d));
       fits = λ p. omega (
         arith,
-        part-fits P cap σ p meets,
+        part-fits P caps σ p meets,
         count-mono
             (takes P (marking P (splitMarks P σ)) p)
             (λ t. samePart p (σ t))

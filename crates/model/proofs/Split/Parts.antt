@@ -9,8 +9,9 @@ use Rattle.counting.proofs.Joined.{no-way, clash, and-intro}
 use Rattle.counting.proofs.Counted.{any-intro}
 use Rattle.model.specs.declared.Part.{Part}
 use Rattle.model.specs.declared.Part.the-variants.{Zero, One}
+use Rattle.model.specs.declared.Caps.{Caps}
 use Rattle.model.specs.Pattern.{Pattern, on}
-use Rattle.model.specs.Split.{Split, Meets, partNumber, other, samePart, holds, isCut, load}
+use Rattle.model.specs.Split.{Split, Meets, partNumber, other, samePart, holds, isCut, load, capOf}
 
 -- a part is the same as itself
 pub same-refl : (p : Part) → samePart p p ≡ true
@@ -60,7 +61,7 @@ unfolding isCut other
 cut-of-both P σ Zero l h g = and-intro h g
 cut-of-both P σ One l h g = and-intro g h
 
--- a part of a split that meets the cap
-pub part-fits : (P : Pattern) (cap : ℕ) (σ : Split) (p : Part) → Meets P cap σ → load P σ p ≤ cap
-part-fits P cap σ Zero m = m .zero-fits
-part-fits P cap σ One m = m .one-fits
+-- a part of a split that meets both caps
+pub part-fits : (P : Pattern) (caps : Caps) (σ : Split) (p : Part) → Meets P caps σ → load P σ p ≤ capOf caps p
+part-fits P caps σ Zero m = m .zero-fits
+part-fits P caps σ One m = m .one-fits

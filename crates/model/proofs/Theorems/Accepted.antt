@@ -1,16 +1,22 @@
--- What an accepted opening says of its pattern: every nonzero lies in the matrix, the rows rise, and a split can meet the cap.
+-- What an accepted opening says of its pattern: every nonzero lies in the matrix, the rows rise, and a split can meet the caps.
 -- Assumes nothing.
-use mathlib.Core.Bool.{true}
+use mathlib.Core.Bool.{true, false}
 use mathlib.Core.List.{List}
 use mathlib.Core.Path.{_≡_}
-use Prim.Native.Nat.{ℕ, _*_, _≤_, _<_}
+use Prim.Native.Nat.{ℕ, _+_, _*_, _≤_, _<_}
 use lib.Dec.{ltb}
 use lib.ListN.{length}
 use borrow.Author.Tests.{ltb-false}
+use Rattle.counting.specs.Tests.{_or_}
+use Rattle.counting.proofs.Joined.{or-fails-left, or-fails-right}
+use Rattle.model.specs.declared.Part.{Part}
+use Rattle.model.specs.declared.Part.the-variants.{Zero, One}
 use Rattle.model.specs.declared.Word.the-variants.{ShortBuffer, Cap, NoSplit}
 use Rattle.model.specs.declared.Verdict.the-variants.{Accepted}
+use Rattle.model.specs.declared.Caps.{Caps}
 use Rattle.model.specs.Limits.{lineLimit, nonzeroLimit, capLimit}
 use Rattle.model.specs.Refusal.{refuse, _then_}
+use Rattle.model.specs.Split.{capOf, capsOutside}
 use Rattle.model.specs.Pattern.{Inside, entryBytes, rowIn, columnIn, patternOf}
 use Rattle.model.specs.Calls.{sizesVerdict, rises, entryVerdict, entriesVerdict, listVerdict, openVerdict}
 use Rattle.model.proofs.Theorems.Checks.{refuse-not, then-first, then-second, each-accepted, rows-range, columns-range, nonzeros-small, nonzeros-fit, entry-row, entry-column, entry-rises}
@@ -69,33 +75,30 @@ module _ (m n nonzeros : ℕ) (list : List ℕ) (h : listVerdict m n nonzeros li
         column-in = λ t b. list-accepted .column-in t b;
       }
 
--- an accepted opening: the list is accepted, the cap is in range, and a split can meet it
-pub record OpenFine (m n nonzeros : ℕ) (list : List ℕ) (cap : ℕ) : Type 0 where
+-- an accepted opening: the list is accepted, each cap is in range, and a split can meet both
+pub record OpenFine (m n nonzeros : ℕ) (list : List ℕ) (caps : Caps) : Type 0 where
   pub listed : listVerdict m n nonzeros list ≡ Accepted
-  pub cap-to : cap ≤ capLimit
-  pub enough : nonzeros ≤ 2 * cap
+  pub caps-to : capsOutside caps ≡ false
+  pub enough : nonzeros ≤ caps .cap0 + caps .cap1
 
-pub open-accepted :
-    (m n nonzeros : ℕ) (list : List ℕ) (cap : ℕ) →
-    openVerdict m n nonzeros list cap ≡ Accepted → OpenFine m n nonzeros list cap
-unfolding openVerdict
-open-accepted m n nonzeros list cap h =
-    let front = then-first (listVerdict m n nonzeros list then refuse (ltb capLimit cap) Cap 0) (refuse (ltb (2 * cap) nonzeros) NoSplit 0) h in
-    record {
-      listed = then-first (listVerdict m n nonzeros list) (refuse (ltb capLimit cap) Cap 0) front;
-      cap-to = ltb-false
-          capLimit
-          cap
-          (refuse-not (ltb capLimit cap) Cap 0 (then-second (listVerdict m n nonzeros list) (refuse (ltb capLimit cap) Cap 0) front));
-      enough = ltb-false
-          (2 * cap)
-          nonzeros
-          (refuse-not
-          (ltb (2 * cap) nonzeros)
-          NoSplit
-          0
-          (then-second
-          (listVerdict m n nonzeros list then refuse (ltb capLimit cap) Cap 0)
-          (refuse (ltb (2 * cap) nonzeros) NoSplit 0)
-          h));
-    }
+-- caps in range are at most the limit
+pub caps-ranged :
+    (caps : Caps) → capsOutside caps ≡ false → (p : Part) → capOf caps p ≤ capLimit
+unfolding capsOutside
+caps-ranged caps h Zero = ltb-false capLimit (caps .cap0) (or-fails-left (ltb capLimit (caps .cap0)) (ltb capLimit (caps .cap1)) h)
+caps-ranged caps h One = ltb-false capLimit (caps .cap1) (or-fails-right (ltb capLimit (caps .cap0)) (ltb capLimit (caps .cap1)) h)
+
+module _ (m n nonzeros : ℕ) (list : List ℕ) (caps : Caps) (h : openVerdict m n nonzeros list caps ≡ Accepted) where
+  -- up to 11
+  ranged : listVerdict m n nonzeros list then refuse (capsOutside caps) Cap 0 ≡ Accepted
+  unfolding openVerdict
+  ranged = then-first _ (refuse (ltb (caps .cap0 + caps .cap1) nonzeros) NoSplit 0) h
+
+  pub open-accepted : OpenFine m n nonzeros list caps
+  unfolding openVerdict
+  open-accepted =
+      record {
+        listed = then-first _ (refuse (capsOutside caps) Cap 0) ranged;
+        caps-to = refuse-not _ Cap 0 (then-second (listVerdict m n nonzeros list) _ ranged);
+        enough = ltb-false (caps .cap0 + caps .cap1) nonzeros (refuse-not _ NoSplit 0 (then-second _ _ h));
+      }

@@ -1,5 +1,5 @@
 -- The cap from a percentage and its rest: they are the one pair with (100 + e) × ceiling(N / 2) = 100 × cap + rest and rest under 100. The
--- cap is at least ceiling(N / 2) and at most 2,000, so an opening with it is refused for its list alone, never with 11 or 12.
+-- cap is at least ceiling(N / 2) and at most 2,000, so an opening with it for both parts is refused for its list alone, never with 11 or 12.
 -- Assumes nothing.
 use mathlib.Core.List.{List}
 use mathlib.Core.Path.{_≡_, refl, sym, _∙_, ap}
@@ -8,7 +8,7 @@ use native.Mathlib.Nat.{mul-le-mul}
 use native.Mathlib.Omega.{arith}
 use lib.Dec.{ltb}
 use borrow.Author.Tests.{ltb-false, lt-ltb, le-ltb}
-use Rattle.counting.proofs.Joined.{never}
+use Rattle.counting.proofs.Joined.{never, or-fails}
 use Rattle.model.specs.declared.Word.{Word}
 use Rattle.model.specs.declared.Word.the-variants.{TooBig, Cap, NoSplit}
 use Rattle.model.specs.declared.Verdict.{Verdict}
@@ -16,7 +16,7 @@ use Rattle.model.specs.declared.Verdict.the-variants.{Accepted, Refused}
 use Rattle.model.specs.declared.CapAnswer.the-variants as cap-answer
 use Rattle.model.specs.Limits.{nonzeroLimit, capLimit, percentLimit}
 use Rattle.model.specs.Refusal.{refusalNumber, refuse}
-use Rattle.model.specs.Split.{ceilingHalf, capHundredths, capFromPercent, restFromPercent, CutOff}
+use Rattle.model.specs.Split.{bothCaps, capsOutside, ceilingHalf, capHundredths, capFromPercent, restFromPercent, CutOff}
 use Rattle.model.specs.Calls.{listVerdict, openVerdict, capVerdict, capAfter, capCall, openCall}
 use Rattle.model.proofs.Theorems.Checks.{refuse-so, refuse-no, refuse-not, then-accepted, then-refused, then-first, then-second, then-rest}
 use Rattle.model.proofs.Theorems.Spared.{cap-words, list-spares}
@@ -45,8 +45,8 @@ cap-from nonzeros percent =
     let cut = cut-off nonzeros percent in
     omega (arith, mul-le-mul whole same, cut .whole, cut .rest-below)
 
--- so some split meets it
-pub cap-enough : (nonzeros percent : ℕ) → nonzeros ≤ 2 * capFromPercent nonzeros percent
+-- so some split meets it in both parts
+pub cap-enough : (nonzeros percent : ℕ) → nonzeros ≤ capFromPercent nonzeros percent + capFromPercent nonzeros percent
 cap-enough nonzeros percent = omega (arith, cap-from nonzeros percent, ceiling-half nonzeros .0)
 
 -- for N and e in range it is at most 2,000
@@ -56,14 +56,15 @@ cap-to nonzeros percent few low =
     let half : ceilingHalf nonzeros ≤ 1000 = omega (arith, ceiling-half nonzeros .1) in
     omega (arith, mul-le-mul most half, cut-off nonzeros percent .whole)
 
--- so an opening with it makes no other checks than those of its list
+-- so an opening with it for both parts makes no other checks than those of its list
 pub percent-opens :
     (m n nonzeros : ℕ) (list : List ℕ) (percent : ℕ) → nonzeros ≤ nonzeroLimit → percent ≤ percentLimit →
-    openVerdict m n nonzeros list (capFromPercent nonzeros percent) ≡ listVerdict m n nonzeros list
-unfolding openVerdict
+    openVerdict m n nonzeros list (bothCaps (capFromPercent nonzeros percent)) ≡ listVerdict m n nonzeros list
+unfolding openVerdict capsOutside
 percent-opens m n nonzeros list percent few low =
+    let small = le-ltb capLimit (capFromPercent nonzeros percent) (cap-to nonzeros percent few low) in
     then-rest _ (refuse-no NoSplit 0 (le-ltb _ nonzeros (cap-enough nonzeros percent)))
-    ∙ then-rest _ (refuse-no Cap 0 (le-ltb capLimit _ (cap-to nonzeros percent few low)))
+    ∙ then-rest _ (refuse-no Cap 0 (or-fails small small))
 
 -- what is answered: 4 for N above its range
 pub cap-too-big : (nonzeros percent : ℕ) → nonzeroLimit < nonzeros → capCall nonzeros percent ≡ cap-answer.Refused TooBig 0
@@ -116,15 +117,15 @@ module _ (nonzeros percent cap rest : ℕ) where
         }
 
     -- an opening with a cap that was answered
-    pub capped-opens : (m n : ℕ) (list : List ℕ) → openVerdict m n nonzeros list cap ≡ listVerdict m n nonzeros list
+    pub capped-opens : (m n : ℕ) (list : List ℕ) → openVerdict m n nonzeros list (bothCaps cap) ≡ listVerdict m n nonzeros list
     capped-opens m n list =
-        ap (openVerdict m n nonzeros list) (cut-off-once (cap-accepted .cut) .0)
+        ap (λ (x : ℕ). openVerdict m n nonzeros list (bothCaps x)) (cut-off-once (cap-accepted .cut) .0)
         ∙ percent-opens m n nonzeros list percent (cap-accepted .size-to) (cap-accepted .percent-to)
 
 -- a search opened with a cap from a percentage is never refused 11 or 12
 pub capped-never :
     (m n nonzeros : ℕ) (list : List ℕ) (percent cap rest : ℕ) (word : Word) (place : ℕ) →
-    capCall nonzeros percent ≡ cap-answer.Capped cap rest → openCall m n nonzeros list cap .verdict ≡ Refused word place →
+    capCall nonzeros percent ≡ cap-answer.Capped cap rest → openCall m n nonzeros list (bothCaps cap) .verdict ≡ Refused word place →
     (refusalNumber word ≡ 11 → ⊥) × (refusalNumber word ≡ 12 → ⊥)
 unfolding openCall
 capped-never m n nonzeros list percent cap rest word place e refused =

@@ -2,9 +2,11 @@
 -- Assumes nothing.
 use mathlib.Core.Bool.{true, false}
 use mathlib.Core.Path.{_≡_}
-use Prim.Native.Nat.{ℕ, _+_, _-_, _*_, _/_, _^_, _≤_}
-use Rattle.model.specs.Limits.{capLimit, triesLimit}
+use Prim.Native.Nat.{ℕ, _+_, _-_, _/_, _^_, _≤_}
+use Rattle.model.specs.declared.Caps.{Caps}
+use Rattle.model.specs.Limits.{triesLimit}
 use Rattle.model.specs.Pattern.{Pattern, Inside, lineTotal}
+use Rattle.model.specs.Split.{capsOutside}
 use Rattle.model.specs.Walk.{rulesOf, freshOf, walk, walked}
 use Rattle.model.specs.State.{stateFine}
 use Rattle.model.proofs.Walk.Steps.{walk-adds, complete-stays}
@@ -17,40 +19,40 @@ unfoldable pub mostTries : ℕ → ℕ
 mostTries k = (3 ^ (k + 1) - 3) / 2
 
 -- tries never exceed (3^(k+1) − 3) / 2
-pub walked-tries : (P : Pattern) (cap tries : ℕ) → walked P cap tries .tries ≤ mostTries (lineTotal P)
+pub walked-tries : (P : Pattern) (caps : Caps) (tries : ℕ) → walked P caps tries .tries ≤ mostTries (lineTotal P)
 unfolding walked rulesOf freshOf mostTries
-walked-tries P cap tries = tries-bound (rulesOf P cap) (P .m) (P .n) (P .size) cap tries
+walked-tries P caps tries = tries-bound (rulesOf P caps) (P .m) (P .n) (P .size) caps tries
 
 -- and the walk is complete by then
-pub walked-ends : (P : Pattern) (cap : ℕ) → walked P cap (mostTries (lineTotal P)) .complete ≡ true
+pub walked-ends : (P : Pattern) (caps : Caps) → walked P caps (mostTries (lineTotal P)) .complete ≡ true
 unfolding walked rulesOf freshOf mostTries
-walked-ends P cap = ends (rulesOf P cap) (P .m) (P .n) (P .size) cap
+walked-ends P caps = ends (rulesOf P caps) (P .m) (P .n) (P .size) caps
 
 -- it makes exactly the tries that it is given, or fewer only because it became complete
-pub walked-given : (P : Pattern) (cap tries : ℕ) → walked P cap tries .complete ≡ false → walked P cap tries .tries ≡ tries
+pub walked-given : (P : Pattern) (caps : Caps) (tries : ℕ) → walked P caps tries .complete ≡ false → walked P caps tries .tries ≡ tries
 unfolding walked rulesOf freshOf
-walked-given P cap tries = tries-all (rulesOf P cap) (P .m) (P .n) (P .size) cap tries
+walked-given P caps tries = tries-all (rulesOf P caps) (P .m) (P .n) (P .size) caps tries
 
-pub walked-most : (P : Pattern) (cap tries : ℕ) → walked P cap tries .tries ≤ tries
+pub walked-most : (P : Pattern) (caps : Caps) (tries : ℕ) → walked P caps tries .tries ≤ tries
 unfolding walked rulesOf freshOf
-walked-most P cap tries = tries-within (rulesOf P cap) (P .m) (P .n) (P .size) cap tries
+walked-most P caps tries = tries-within (rulesOf P caps) (P .m) (P .n) (P .size) caps tries
 
 -- the walk after a + b tries is the walk after b tries from the record after a
 pub walked-adds :
-    (P : Pattern) (cap a b : ℕ) → walked P cap (a + b) ≡ walk (rulesOf P cap) b (walked P cap a)
+    (P : Pattern) (caps : Caps) (a b : ℕ) → walked P caps (a + b) ≡ walk (rulesOf P caps) b (walked P caps a)
 unfolding walked
-walked-adds P cap a b = walk-adds (rulesOf P cap) a b (freshOf P cap)
+walked-adds P caps a b = walk-adds (rulesOf P caps) a b (freshOf P caps)
 
 -- a complete record stays as it is
 pub walked-stays :
-    (P : Pattern) (cap a b : ℕ) → walked P cap a .complete ≡ true → walk (rulesOf P cap) b (walked P cap a) ≡ walked P cap a
-walked-stays P cap a b done = complete-stays (rulesOf P cap) b (walked P cap a) done
+    (P : Pattern) (caps : Caps) (a b : ℕ) → walked P caps a .complete ≡ true → walk (rulesOf P caps) b (walked P caps a) ≡ walked P caps a
+walked-stays P caps a b done = complete-stays (rulesOf P caps) b (walked P caps a) done
 
 -- every record that the walk reaches within the limit on tries passes the state check
 pub walked-fine :
-    (P : Pattern) (cap tries : ℕ) →
-    Inside P → P .size ≤ 2 * cap → cap ≤ capLimit → walked P cap tries .tries ≤ triesLimit →
-    stateFine (rulesOf P cap) (P .m) (P .n) (P .size) (walked P cap tries) ≡ true
+    (P : Pattern) (caps : Caps) (tries : ℕ) →
+    Inside P → P .size ≤ caps .cap0 + caps .cap1 → capsOutside caps ≡ false → walked P caps tries .tries ≤ triesLimit →
+    stateFine (rulesOf P caps) (P .m) (P .n) (P .size) (walked P caps tries) ≡ true
 unfolding walked rulesOf freshOf
-walked-fine P cap tries i enough small few =
-    reached-fine (P .m) (P .n) (P .size) cap tries (rules-sound P cap i) enough small few
+walked-fine P caps tries i enough small few =
+    reached-fine (P .m) (P .n) (P .size) caps tries (rules-sound P caps i) enough small few

@@ -9,6 +9,7 @@ use Rattle.counting.proofs.Joined.{never}
 use Rattle.model.specs.declared.Word.{Word}
 use Rattle.model.specs.declared.Verdict.{Verdict}
 use Rattle.model.specs.declared.Verdict.the-variants.{Accepted, Refused}
+use Rattle.model.specs.declared.Caps.{Caps}
 use Rattle.model.specs.declared.Search.{Search}
 use Rattle.model.specs.declared.RunAnswer.the-variants as run-answer
 use Rattle.model.specs.declared.ShowAnswer.the-variants as show-answer
@@ -44,11 +45,11 @@ run-refused s m n nonzeros list budget word place e =
 
 -- what is shown is no refusal
 shown-not :
-    {A : Type 0} (P : Pattern) (cap : ℕ) (best : Option (List ℕ)) (low : ℕ) (word : Word) (place : ℕ) →
-    shown P cap best low ≡ show-answer.Refused word place → A
+    {A : Type 0} (P : Pattern) (caps : Caps) (best : Option (List ℕ)) (low : ℕ) (word : Word) (place : ℕ) →
+    shown P caps best low ≡ show-answer.Refused word place → A
 unfolding shown
-shown-not P cap none low word place e = never (cc)
-shown-not P cap (some best) low word place e = never (cc)
+shown-not P caps none low word place e = never (cc)
+shown-not P caps (some best) low word place e = never (cc)
 
 show-by-verdict :
     (v : Verdict) (r : Record) (P : Pattern) (parts : List ℕ) (word : Word) (place : ℕ) →
@@ -56,7 +57,7 @@ show-by-verdict :
     (v ≡ Refused word place) × (partsAfter v r P parts ≡ parts)
 unfolding shownAfter partsAfter
 show-by-verdict Accepted r P parts word place e =
-    shown-not P (r .cap) (r .best) (floor (rulesOf P (r .cap)) r) word place e
+    shown-not P (r .caps) (r .best) (floor (rulesOf P (r .caps)) r) word place e
 show-by-verdict (Refused other at) r P parts word place e = (cc, refl)
 
 -- a refused showing leaves its parts as they were
@@ -78,17 +79,17 @@ show-refused s m n nonzeros list parts word place e =
 
 -- so does one that answers "none yet"
 none-parts :
-    (P : Pattern) (cap : ℕ) (best : Option (List ℕ)) (low floor : ℕ) (parts : List ℕ) →
-    shown P cap best low ≡ show-answer.NoneYet floor → shownParts P cap best parts ≡ parts
+    (P : Pattern) (caps : Caps) (best : Option (List ℕ)) (low floor : ℕ) (parts : List ℕ) →
+    shown P caps best low ≡ show-answer.NoneYet floor → shownParts P caps best parts ≡ parts
 unfolding shown shownParts
-none-parts P cap none low floor parts e = refl
-none-parts P cap (some best) low floor parts e = never (cc)
+none-parts P caps none low floor parts e = refl
+none-parts P caps (some best) low floor parts e = never (cc)
 
 none-by-verdict :
     (v : Verdict) (r : Record) (P : Pattern) (parts : List ℕ) (low : ℕ) →
     shownAfter v r P ≡ show-answer.NoneYet low → partsAfter v r P parts ≡ parts
 unfolding shownAfter partsAfter
-none-by-verdict Accepted r P parts low e = none-parts P (r .cap) (r .best) (floor (rulesOf P (r .cap)) r) low parts e
+none-by-verdict Accepted r P parts low e = none-parts P (r .caps) (r .best) (floor (rulesOf P (r .caps)) r) low parts e
 none-by-verdict (Refused word place) r P parts low e = refl
 
 pub show-none :

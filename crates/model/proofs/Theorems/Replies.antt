@@ -8,6 +8,7 @@ use mathlib.Core.Path.{_≡_, refl, _∙_, ap}
 use Prim.Native.Nat.{ℕ}
 use Rattle.model.specs.declared.Verdict.{Verdict}
 use Rattle.model.specs.declared.Verdict.the-variants.{Accepted, Refused}
+use Rattle.model.specs.declared.Caps.{Caps}
 use Rattle.model.specs.declared.Search.{Search}
 use Rattle.model.specs.declared.CapAnswer.{CapAnswer}
 use Rattle.model.specs.declared.Opened.{Opened}
@@ -46,17 +47,17 @@ verdict-told verdict e = (e, ap verdictReply e)
 
 -- an opening: no values beside the search
 pub open-replies :
-    (m n nonzeros : ℕ) (list : List ℕ) (cap : ℕ) →
-    verdictReply (openCall m n nonzeros list cap .verdict) ≡ openReplies m n nonzeros list cap
+    (m n nonzeros : ℕ) (list : List ℕ) (caps : Caps) →
+    verdictReply (openCall m n nonzeros list caps .verdict) ≡ openReplies m n nonzeros list caps
 unfolding openCall openReplies
-open-replies m n nonzeros list cap = refl
+open-replies m n nonzeros list caps = refl
 
 pub open-told :
-    {answer : Opened} (m n nonzeros : ℕ) (list : List ℕ) (cap : ℕ) → answer ≡ openCall m n nonzeros list cap →
-    (answer ≡ openCall m n nonzeros list cap)
-    × (verdictReply (answer .verdict) ≡ openReplies m n nonzeros list cap)
-open-told m n nonzeros list cap e =
-    (e, ap (λ (a : Opened). verdictReply (a .verdict)) e ∙ open-replies m n nonzeros list cap)
+    {answer : Opened} (m n nonzeros : ℕ) (list : List ℕ) (caps : Caps) → answer ≡ openCall m n nonzeros list caps →
+    (answer ≡ openCall m n nonzeros list caps)
+    × (verdictReply (answer .verdict) ≡ openReplies m n nonzeros list caps)
+open-told m n nonzeros list caps e =
+    (e, ap (λ (a : Opened). verdictReply (a .verdict)) e ∙ open-replies m n nonzeros list caps)
 
 -- a run: complete 0 or 1
 ended-reply : (done : Bool) → runReply (ended done) ≡ given (completeNumber done ∷ [])
@@ -89,16 +90,16 @@ run-told s m n nonzeros list budget e =
 
 -- a showing: volume and floor, or the floor alone
 shown-replies :
-    (P : Pattern) (cap : ℕ) (best : Option (List ℕ)) (low : ℕ) → showReply (shown P cap best low) ≡ shownReply P cap best low
+    (P : Pattern) (caps : Caps) (best : Option (List ℕ)) (low : ℕ) → showReply (shown P caps best low) ≡ shownReply P caps best low
 unfolding showReply shown shownReply
-shown-replies P cap none low = refl
-shown-replies P cap (some best) low = refl
+shown-replies P caps none low = refl
+shown-replies P caps (some best) low = refl
 
 pub show-by-verdict :
     (v : Verdict) (r : Record) (P : Pattern) →
-    showReply (shownAfter v r P) ≡ replyAfter v (shownReply P (r .cap) (r .best) (floor (rulesOf P (r .cap)) r))
+    showReply (shownAfter v r P) ≡ replyAfter v (shownReply P (r .caps) (r .best) (floor (rulesOf P (r .caps)) r))
 unfolding shownAfter replyAfter showReply
-show-by-verdict Accepted r P = shown-replies P (r .cap) (r .best) (floor (rulesOf P (r .cap)) r)
+show-by-verdict Accepted r P = shown-replies P (r .caps) (r .best) (floor (rulesOf P (r .caps)) r)
 show-by-verdict (Refused word place) r P = refl
 
 pub show-replies :

@@ -1,6 +1,6 @@
 -- At every point of a walk each full marking is settled: it has at least the best count of cut lines, or is still open.
 -- Assumes nothing.
-use mathlib.Core.Bool.{true, false}
+use mathlib.Core.Bool.{Bool, true, false}
 use mathlib.Core.List.{List, [], _∷_}
 use mathlib.Core.Logic.{_⊎_, inl, inr}
 use mathlib.Core.Path.{_≡_, refl, ap}
@@ -9,6 +9,7 @@ use native.Mathlib.Omega.{arith}
 use lib.ListN.{length}
 use borrow.Author.Tests.{ltb-true, ltb-false}
 use Rattle.counting.specs.Tests.{pick}
+use Rattle.model.specs.declared.Caps.{Caps}
 use Rattle.model.specs.Walk.{Record, Rules, fresh, advance, cuts, isEmpty, tried, improved, stands, tryOnce, walk, beginningsLater, openMarkings}
 use Rattle.counting.proofs.Joined.{and-left, and-right, and-other}
 use Rattle.model.proofs.Walk.Sound.{Begins, begins-empty, begins-same, Full, Sound, empty-valid}
@@ -23,31 +24,31 @@ Settled count opened ν = (count ≤ cuts ν) ⊎ Among ν opened
 -- an orderly record by which every full marking is settled
 pub record Covers (R : Rules) (r : Record) : Type 0 where
   pub orderly : Orderly R r
-  pub settled : (ν : List ℕ) → Full R ν → Settled (r .bestCount) (openMarkings r) ν
+  pub settled : (ν : List ℕ) → Full R ν → Settled (r .bestCount) (openMarkings R r) ν
 
 -- the open markings of a search that is not complete
-open-going : (r : Record) → r .complete ≡ false → openMarkings r ≡ r .trail ∷ beginningsLater (r .trail)
+open-going : (R : Rules) (r : Record) → r .complete ≡ false → openMarkings R r ≡ r .trail ∷ beginningsLater (R .oneFirst) (r .trail)
 unfolding openMarkings pick
-open-going r going = rw going refl
+open-going R r going = rw going refl
 
 -- the open markings of a complete search
-pub open-done : (r : Record) → r .complete ≡ true → openMarkings r ≡ []
+pub open-done : (R : Rules) (r : Record) → r .complete ≡ true → openMarkings R r ≡ []
 unfolding openMarkings pick
-open-done r done = rw done refl
+open-done R r done = rw done refl
 
 -- what is settled stays settled where the trail grows
 grown-settles : {R : Rules} (count : ℕ) (τ : List ℕ) {ν : List ℕ} → Full R ν → length τ < R .k
-    → Settled count (τ ∷ beginningsLater τ) ν → Settled count (openBehind (0 ∷ τ)) ν
-grown-settles count τ f room (inl h) = inl h
-grown-settles count τ f room (inr (here b)) = inr (grown-opens b (omega (arith, f .long)) (f .marks) (f .starts))
-grown-settles count τ f room (inr (there a)) = inr (later-opens τ a)
+    → Settled count (τ ∷ beginningsLater (R .oneFirst) τ) ν → Settled count (openBehind (R .oneFirst) (0 ∷ τ)) ν
+grown-settles {R} count τ f room (inl h) = inl h
+grown-settles {R} count τ f room (inr (here b)) = inr (grown-opens (R .oneFirst) b (omega (arith, f .long)) (f .marks) (f .allowed))
+grown-settles {R} count τ f room (inr (there a)) = inr (later-opens (R .oneFirst) τ a)
 
 -- what is settled stays settled where the trail advances, if a lower count settles what the trail begins
-passed-settles : {count lower : ℕ} (τ : List ℕ) {ν : List ℕ} → lower ≤ count → (Begins τ ν → lower ≤ cuts ν)
-    → Settled count (τ ∷ beginningsLater τ) ν → Settled lower (openBehind (advance τ)) ν
-passed-settles τ down h (inl p) = inl (omega arith)
-passed-settles τ down h (inr (here b)) = inl (h b)
-passed-settles τ down h (inr (there a)) = inr (rw (← advance-opens τ) a)
+passed-settles : (first : Bool) {count lower : ℕ} (τ : List ℕ) {ν : List ℕ} → lower ≤ count → (Begins τ ν → lower ≤ cuts ν)
+    → Settled count (τ ∷ beginningsLater first τ) ν → Settled lower (openBehind first (advance first τ)) ν
+passed-settles first τ down h (inl p) = inl (omega arith)
+passed-settles first τ down h (inr (here b)) = inl (h b)
+passed-settles first τ down h (inr (there a)) = inr (rw (← advance-opens first τ) a)
 
 -- a full marking that the trail begins has at least the best count of cut lines if the trail does not stand
 given-up : {R : Rules} (r : Record) {ν : List ℕ} → Sound R → Full R ν
@@ -73,38 +74,38 @@ same-cuts {R} {τ} {ν} f g b =
     omega (arith, ap cuts same)
 
 -- a fresh record covers every full marking
-fresh-covers : {R : Rules} (m n nonzeros cap : ℕ) → Sound R → Covers R (fresh m n nonzeros cap (R .k))
+fresh-covers : {R : Rules} (m n nonzeros : ℕ) (caps : Caps) → Sound R → Covers R (fresh m n nonzeros caps (R .k))
 unfolding fresh openMarkings pick openBehind isEmpty
-fresh-covers {R} m n nonzeros cap S =
-    record { orderly = fresh-orderly R m n nonzeros cap (empty-valid S); settled = go (R .k) refl }
+fresh-covers {R} m n nonzeros caps S =
+    record { orderly = fresh-orderly R m n nonzeros caps (empty-valid S); settled = go (R .k) refl }
   where
     go : (k : ℕ) → R .k ≡ k → (ν : List ℕ) → Full R ν
-        → Settled (fresh m n nonzeros cap k .bestCount) (openMarkings (fresh m n nonzeros cap k)) ν
+        → Settled (fresh m n nonzeros caps k .bestCount) (openMarkings R (fresh m n nonzeros caps k)) ν
     go zero e ν f = inl (omega arith)
     go (suc k) e ν f =
         let long : length ν ≡ R .k = f .long in
-        inr (grown-opens (begins-empty ν) (omega arith) (f .marks) (f .starts))
+        inr (grown-opens (R .oneFirst) (begins-empty ν) (omega arith) (f .marks) (f .allowed))
 
 -- after a try every full marking is settled
 try-settles : {R : Rules} → Sound R → (r : Record) → r .complete ≡ false → Covers R r
-    → (ν : List ℕ) → Full R ν → Settled (tryOnce R r .bestCount) (openMarkings (tryOnce R r)) ν
+    → (ν : List ℕ) → Full R ν → Settled (tryOnce R r .bestCount) (openMarkings R (tryOnce R r)) ν
 unfolding tried improved stands openMarkings openBehind
 try-settles {R} S r going c ν f =
-    try-keeps R r (λ s. Settled (s .bestCount) (openMarkings s) ν)
+    try-keeps R r (λ s. Settled (s .bestCount) (openMarkings R s) ν)
     (λ up room. grown-settles (r .bestCount) (r .trail) f room now)
     (λ up long.
     let g : Full R (r .trail) = legal-full (c .orderly .legal) (and-left _ _ up) long in
-    passed-settles (r .trail) (betters r S g up) (same-cuts g f) now)
-    (λ down. passed-settles (r .trail) (omega arith) (given-up r S f down) now)
+    passed-settles (R .oneFirst) (r .trail) (betters r S g up) (same-cuts g f) now)
+    (λ down. passed-settles (R .oneFirst) (r .trail) (omega arith) (given-up r S f down) now)
   where
-    now : Settled (r .bestCount) (r .trail ∷ beginningsLater (r .trail)) ν
-    now = rw (open-going r going) at (c .settled ν f)
+    now : Settled (r .bestCount) (r .trail ∷ beginningsLater (R .oneFirst) (r .trail)) ν
+    now = rw (open-going R r going) at (c .settled ν f)
 
 -- a walk from a fresh record covers every full marking
-pub walk-covers : {R : Rules} → Sound R → (m n nonzeros cap tries : ℕ)
-    → Covers R (walk R tries (fresh m n nonzeros cap (R .k)))
-walk-covers {R} S m n nonzeros cap tries =
+pub walk-covers : {R : Rules} → Sound R → (m n nonzeros : ℕ) (caps : Caps) (tries : ℕ)
+    → Covers R (walk R tries (fresh m n nonzeros caps (R .k)))
+walk-covers {R} S m n nonzeros caps tries =
     walk-keeps R (λ s. Covers R s)
     (λ r going c. record { orderly = try-orderly R r (c .orderly); settled = try-settles S r going c })
     tries _
-    (fresh-covers m n nonzeros cap S)
+    (fresh-covers m n nonzeros caps S)

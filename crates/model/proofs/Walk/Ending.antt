@@ -5,6 +5,7 @@ use mathlib.Core.Path.{_≡_, refl, sym, _∙_, ap, subst}
 use Prim.Native.Nat.{ℕ, zero, suc, _+_, _*_, _-_, _/_, _^_, _≤_}
 use native.Mathlib.Omega.{arith}
 use lib.ListN.{length}
+use Rattle.model.specs.declared.Caps.{Caps}
 use Rattle.model.specs.Walk.{Record, Rules, fresh, advance, isEmpty, tried, improved, tryOnce, step, walk}
 use Rattle.counting.proofs.Joined.{no-way, clash}
 use Rattle.model.proofs.Walk.Steps.{after, try-keeps, step-stays, step-tries, walk-keeps}
@@ -17,11 +18,11 @@ pub record Paced (R : Rules) (r : Record) : Type 0 where
   pub paid : r .tries + left (R .k) (r .trail) ≤ 3 * size (R .k)
 
 -- a fresh record is paced
-fresh-paced : (R : Rules) (m n nonzeros cap : ℕ) → Paced R (fresh m n nonzeros cap (R .k))
+fresh-paced : (R : Rules) (m n nonzeros : ℕ) (caps : Caps) → Paced R (fresh m n nonzeros caps (R .k))
 unfolding fresh isEmpty left later
-fresh-paced R m n nonzeros cap = go (R .k) refl
+fresh-paced R m n nonzeros caps = go (R .k) refl
   where
-    go : (k : ℕ) → R .k ≡ k → Paced R (fresh m n nonzeros cap k)
+    go : (k : ℕ) → R .k ≡ k → Paced R (fresh m n nonzeros caps k)
     go zero e = record { within = omega arith; ended = refl; paid = omega arith }
     go (suc k) e =
         let whole : R .k - 0 ≡ R .k = omega arith in
@@ -39,24 +40,24 @@ try-paced R r going p =
     some-marks : isEmpty (r .trail) ≡ false
     some-marks = sym (p .ended) ∙ going
 
-    passed : Paced R (tried r (advance (r .trail)))
+    passed : Paced R (tried r (advance (R .oneFirst) (r .trail)))
     passed =
         record {
-          within = omega (arith, p .within, advance-length (r .trail));
+          within = omega (arith, p .within, advance-length (R .oneFirst) (r .trail));
           ended = refl;
-          paid = omega (arith, p .paid, gives-up-left (R .k) (r .trail) some-marks (p .within));
+          paid = omega (arith, p .paid, gives-up-left (R .oneFirst) (R .k) (r .trail) some-marks (p .within));
         }
 
 -- a walk from a fresh record is paced
-pub walk-paced : (R : Rules) (m n nonzeros cap tries : ℕ) → Paced R (after R m n nonzeros cap tries)
-walk-paced R m n nonzeros cap tries =
-    walk-keeps R (λ s. Paced R s) (λ r going p. try-paced R r going p) tries _ (fresh-paced R m n nonzeros cap)
+pub walk-paced : (R : Rules) (m n nonzeros : ℕ) (caps : Caps) (tries : ℕ) → Paced R (after R m n nonzeros caps tries)
+walk-paced R m n nonzeros caps tries =
+    walk-keeps R (λ s. Paced R s) (λ r going p. try-paced R r going p) tries _ (fresh-paced R m n nonzeros caps)
 
 -- a walk makes at most (3 ^ (k + 1) - 3) / 2 tries
-pub tries-bound : (R : Rules) (m n nonzeros cap tries : ℕ)
-    → after R m n nonzeros cap tries .tries ≤ (3 ^ (R .k + 1) - 3) / 2
-tries-bound R m n nonzeros cap tries =
-    omega (arith, walk-paced R m n nonzeros cap tries .paid, three-sizes (R .k))
+pub tries-bound : (R : Rules) (m n nonzeros : ℕ) (caps : Caps) (tries : ℕ)
+    → after R m n nonzeros caps tries .tries ≤ (3 ^ (R .k + 1) - 3) / 2
+tries-bound R m n nonzeros caps tries =
+    omega (arith, walk-paced R m n nonzeros caps tries .paid, three-sizes (R .k))
 
 -- each try counts
 try-counts : (R : Rules) (r : Record) → tryOnce R r .tries ≡ r .tries + 1
@@ -97,21 +98,21 @@ walk-going R (suc tries) r going =
     omega (arith, now .1, walk-going R tries r (now .0))
 
 -- a fresh record has no tries
-pub fresh-tries : (m n nonzeros cap k : ℕ) → fresh m n nonzeros cap k .tries ≡ 0
+pub fresh-tries : (m n nonzeros : ℕ) (caps : Caps) (k : ℕ) → fresh m n nonzeros caps k .tries ≡ 0
 unfolding fresh
-fresh-tries m n nonzeros cap zero = refl
-fresh-tries m n nonzeros cap (suc k) = refl
+fresh-tries m n nonzeros caps zero = refl
+fresh-tries m n nonzeros caps (suc k) = refl
 
 -- a walk from a fresh record has at most the tries that it is given
-pub tries-within : (R : Rules) (m n nonzeros cap tries : ℕ) → after R m n nonzeros cap tries .tries ≤ tries
-tries-within R m n nonzeros cap tries =
-    omega (arith, walk-counts R tries (fresh m n nonzeros cap (R .k)), fresh-tries m n nonzeros cap (R .k))
+pub tries-within : (R : Rules) (m n nonzeros : ℕ) (caps : Caps) (tries : ℕ) → after R m n nonzeros caps tries .tries ≤ tries
+tries-within R m n nonzeros caps tries =
+    omega (arith, walk-counts R tries (fresh m n nonzeros caps (R .k)), fresh-tries m n nonzeros caps (R .k))
 
 -- it has all of them if it is not complete
-pub tries-all : (R : Rules) (m n nonzeros cap tries : ℕ)
-    → after R m n nonzeros cap tries .complete ≡ false → after R m n nonzeros cap tries .tries ≡ tries
-tries-all R m n nonzeros cap tries going =
-    omega (arith, walk-going R tries (fresh m n nonzeros cap (R .k)) going, fresh-tries m n nonzeros cap (R .k))
+pub tries-all : (R : Rules) (m n nonzeros : ℕ) (caps : Caps) (tries : ℕ)
+    → after R m n nonzeros caps tries .complete ≡ false → after R m n nonzeros caps tries .tries ≡ tries
+tries-all R m n nonzeros caps tries going =
+    omega (arith, walk-going R tries (fresh m n nonzeros caps (R .k)) going, fresh-tries m n nonzeros caps (R .k))
 
 -- a paced record with all of its tries made is complete
 paced-ends : (R : Rules) (r : Record) → Paced R r
@@ -121,11 +122,11 @@ paced-ends R r p all = go (r .complete) refl
     go : (b : Bool) → r .complete ≡ b → r .complete ≡ true
     go true done = done
     go false going =
-        no-way (omega (arith, all going, p .paid, some-left (R .k) (r .trail) (sym (p .ended) ∙ going) (p .within)))
+        no-way (omega (arith, all going, p .paid, some-left (R .oneFirst) (R .k) (r .trail) (sym (p .ended) ∙ going) (p .within)))
 
 -- a walk of (3 ^ (k + 1) - 3) / 2 tries is complete
-pub ends : (R : Rules) (m n nonzeros cap : ℕ)
-    → after R m n nonzeros cap ((3 ^ (R .k + 1) - 3) / 2) .complete ≡ true
-ends R m n nonzeros cap =
-    subst (λ (tries : ℕ). after R m n nonzeros cap tries .complete ≡ true) (three-sizes (R .k))
-    (paced-ends R _ (walk-paced R m n nonzeros cap (3 * size (R .k))) (tries-all R m n nonzeros cap (3 * size (R .k))))
+pub ends : (R : Rules) (m n nonzeros : ℕ) (caps : Caps)
+    → after R m n nonzeros caps ((3 ^ (R .k + 1) - 3) / 2) .complete ≡ true
+ends R m n nonzeros caps =
+    subst (λ (tries : ℕ). after R m n nonzeros caps tries .complete ≡ true) (three-sizes (R .k))
+    (paced-ends R _ (walk-paced R m n nonzeros caps (3 * size (R .k))) (tries-all R m n nonzeros caps (3 * size (R .k))))

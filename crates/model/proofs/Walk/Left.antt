@@ -38,32 +38,32 @@ pub three-sizes : (k : ℕ) → 3 * size k ≡ (3 ^ (k + 1) - 3) / 2
 three-sizes k = rw (add-one, pow-suc, power k) (omega arith)
 
 -- to advance uses up the markings that the trail begins
-pub advance-left : (k : ℕ) (τ : List ℕ) → left k (advance τ) ≤ later k τ
+pub advance-left : (first : Bool) (k : ℕ) (τ : List ℕ) → left k (advance first τ) ≤ later k τ
 unfolding advance left later afterZero pick
-advance-left k [] = omega arith
-advance-left k (zero ∷ τ) = go (oneAllowed τ)
+advance-left first k [] = omega arith
+advance-left first k (zero ∷ τ) = go (oneAllowed first τ)
   where
     go : (b : Bool) → left k (pick b 1 2 ∷ τ) ≤ later k (0 ∷ τ)
     go true = omega arith
     go false = omega arith
-advance-left k (suc zero ∷ τ) = omega arith
-advance-left k (suc (suc x) ∷ τ) = let l = advance-left k τ in omega arith
+advance-left first k (suc zero ∷ τ) = omega arith
+advance-left first k (suc (suc x) ∷ τ) = let l = advance-left first k τ in omega arith
 
 -- a trail does not grow when it advances
-pub advance-length : (τ : List ℕ) → length (advance τ) ≤ length τ
+pub advance-length : (first : Bool) (τ : List ℕ) → length (advance first τ) ≤ length τ
 unfolding advance
-advance-length [] = omega arith
-advance-length (zero ∷ τ) = omega arith
-advance-length (suc zero ∷ τ) = omega arith
-advance-length (suc (suc x) ∷ τ) = let l = advance-length τ in omega arith
+advance-length first [] = omega arith
+advance-length first (zero ∷ τ) = omega arith
+advance-length first (suc zero ∷ τ) = omega arith
+advance-length first (suc (suc x) ∷ τ) = let l = advance-length first τ in omega arith
 
 -- to give up a trail uses up at least one marking
-pub gives-up-left : (k : ℕ) (τ : List ℕ) → isEmpty τ ≡ false → length τ ≤ k → left k (advance τ) + 1 ≤ left k τ
+pub gives-up-left : (first : Bool) (k : ℕ) (τ : List ℕ) → isEmpty τ ≡ false → length τ ≤ k → left k (advance first τ) + 1 ≤ left k τ
 unfolding isEmpty left size
-gives-up-left k [] some-marks within = clash refl some-marks
-gives-up-left k (x ∷ τ) some-marks within =
+gives-up-left first k [] some-marks within = clash refl some-marks
+gives-up-left first k (x ∷ τ) some-marks within =
     let level : k - length τ ≡ suc (k - suc (length τ)) = omega arith in
-    omega (arith, ap size level, advance-left k (x ∷ τ))
+    omega (arith, ap size level, advance-left first k (x ∷ τ))
 
 -- to let a trail grow uses up one marking
 pub grows-left : (k : ℕ) (τ : List ℕ) → isEmpty τ ≡ false → length τ < k → left k (0 ∷ τ) + 1 ≤ left k τ
@@ -74,5 +74,5 @@ grows-left k (x ∷ τ) some-marks room =
     omega (arith, ap size level)
 
 -- a trail with marks leaves at least one marking to try
-pub some-left : (k : ℕ) (τ : List ℕ) → isEmpty τ ≡ false → length τ ≤ k → 1 ≤ left k τ
-some-left k τ some-marks within = omega (arith, gives-up-left k τ some-marks within)
+pub some-left : (first : Bool) (k : ℕ) (τ : List ℕ) → isEmpty τ ≡ false → length τ ≤ k → 1 ≤ left k τ
+some-left first k τ some-marks within = omega (arith, gives-up-left first k τ some-marks within)

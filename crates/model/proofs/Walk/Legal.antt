@@ -8,76 +8,77 @@ use Prim.Native.Nat.{ℕ, zero, suc, _+_, _≤_, _<_}
 use native.Mathlib.Omega.{arith}
 use lib.ListN.{length}
 use Rattle.counting.specs.Tests.{_and_, _or_, pick}
+use Rattle.model.specs.declared.Caps.{Caps}
 use Rattle.model.specs.Walk.{Record, Rules, fresh, oneAllowed, afterZero, advance, cuts, isEmpty, tried, improved, stands, tryOnce, walk}
-use Rattle.model.specs.State.{areMarks, startsWithZero, beginningsValid}
+use Rattle.model.specs.State.{areMarks, onesAllowed, beginningsValid}
 use Rattle.counting.proofs.Joined.{and-left, and-right, and-intro}
 use Rattle.model.proofs.Walk.Sound.{Full}
 use Rattle.model.proofs.Walk.Steps.{try-keeps, walk-keeps}
 
--- at most k legal marks, the first other than cut being 0, and every proper beginning valid
+-- at most k legal marks, mark 1 only where it is allowed, and every proper beginning valid
 pub record Legal (R : Rules) (τ : List ℕ) : Type 0 where
   pub within : length τ ≤ R .k
   pub marks : areMarks τ ≡ true
-  pub starts : startsWithZero τ ≡ true
+  pub allowed : onesAllowed (R .oneFirst) τ ≡ true
   pub before : beginningsValid R τ ≡ true
 
 -- no marks are legal
 pub legal-empty : (R : Rules) → Legal R []
-unfolding areMarks startsWithZero beginningsValid
-legal-empty R = record { within = omega arith; marks = refl; starts = refl; before = refl }
+unfolding areMarks onesAllowed beginningsValid
+legal-empty R = record { within = omega arith; marks = refl; allowed = refl; before = refl }
 
 -- without its last mark a legal marking is legal
 pub legal-shorter : {R : Rules} {x : ℕ} {τ : List ℕ} → Legal R (x ∷ τ) → Legal R τ
-unfolding areMarks startsWithZero beginningsValid
+unfolding areMarks onesAllowed beginningsValid
 legal-shorter {R} {x} {τ} l =
     record {
       within = omega arith;
       marks = and-right _ _ (l .marks);
-      starts = and-right _ _ (l .starts);
+      allowed = and-right _ _ (l .allowed);
       before = and-right _ _ (l .before);
     }
 
 -- the last mark of a legal marking may become cut
 pub legal-cut : {R : Rules} {x : ℕ} {τ : List ℕ} → Legal R (x ∷ τ) → Legal R (2 ∷ τ)
-unfolding areMarks startsWithZero beginningsValid _and_ _or_
+unfolding areMarks onesAllowed beginningsValid _and_ _or_
 legal-cut l =
     record {
       within = l .within;
       marks = legal-shorter l .marks;
-      starts = legal-shorter l .starts;
+      allowed = legal-shorter l .allowed;
       before = l .before;
     }
 
 -- the last mark of a legal marking may become 1 where that is allowed
-pub legal-one : {R : Rules} {x : ℕ} {τ : List ℕ} → Legal R (x ∷ τ) → oneAllowed τ ≡ true → Legal R (1 ∷ τ)
-unfolding areMarks startsWithZero beginningsValid _and_ _or_
-legal-one l allowed =
+pub legal-one : {R : Rules} {x : ℕ} {τ : List ℕ} → Legal R (x ∷ τ) → oneAllowed (R .oneFirst) τ ≡ true → Legal R (1 ∷ τ)
+unfolding areMarks onesAllowed beginningsValid _and_ _or_
+legal-one l may =
     record {
       within = l .within;
       marks = legal-shorter l .marks;
-      starts = and-intro allowed (legal-shorter l .starts);
+      allowed = and-intro may (legal-shorter l .allowed);
       before = l .before;
     }
 
 -- a valid legal marking with room for one more mark may be given mark 0
 pub legal-longer : {R : Rules} {τ : List ℕ} → Legal R τ → R .valid τ ≡ true → length τ < R .k → Legal R (0 ∷ τ)
-unfolding areMarks startsWithZero beginningsValid _and_ _or_
+unfolding areMarks onesAllowed beginningsValid _and_ _or_
 legal-longer l fits room =
     record {
       within = room;
       marks = l .marks;
-      starts = l .starts;
+      allowed = l .allowed;
       before = and-intro fits (l .before);
     }
 
 -- a legal marking advances to a legal one
-pub advance-legal : {R : Rules} (τ : List ℕ) → Legal R τ → Legal R (advance τ)
+pub advance-legal : {R : Rules} (τ : List ℕ) → Legal R τ → Legal R (advance (R .oneFirst) τ)
 unfolding advance afterZero pick
 advance-legal [] l = l
-advance-legal {R} (zero ∷ τ) l = go (oneAllowed τ) refl
+advance-legal {R} (zero ∷ τ) l = go (oneAllowed (R .oneFirst) τ) refl
   where
-    go : (b : Bool) → oneAllowed τ ≡ b → Legal R (pick b 1 2 ∷ τ)
-    go true allowed = legal-one l allowed
+    go : (b : Bool) → oneAllowed (R .oneFirst) τ ≡ b → Legal R (pick b 1 2 ∷ τ)
+    go true may = legal-one l may
     go false denied = legal-cut l
 advance-legal (suc zero ∷ τ) l = legal-cut l
 advance-legal (suc (suc x) ∷ τ) l = advance-legal τ (legal-shorter l)
@@ -97,20 +98,20 @@ pub record Orderly (R : Rules) (r : Record) : Type 0 where
 pub legal-full : {R : Rules} {τ : List ℕ} → Legal R τ → R .valid τ ≡ true → R .k ≤ length τ → Full R τ
 legal-full {R} {τ} l fits long =
     let w : length τ ≤ R .k = l .within in
-    record { long = omega arith; marks = l .marks; starts = l .starts; fits = fits }
+    record { long = omega arith; marks = l .marks; allowed = l .allowed; fits = fits }
 
 -- a fresh record is orderly
-pub fresh-orderly : (R : Rules) (m n nonzeros cap : ℕ)
-    → R .valid [] ≡ true → Orderly R (fresh m n nonzeros cap (R .k))
-unfolding fresh isEmpty cuts areMarks startsWithZero
-fresh-orderly R m n nonzeros cap fits = go (R .k) refl
+pub fresh-orderly : (R : Rules) (m n nonzeros : ℕ) (caps : Caps)
+    → R .valid [] ≡ true → Orderly R (fresh m n nonzeros caps (R .k))
+unfolding fresh isEmpty cuts areMarks onesAllowed
+fresh-orderly R m n nonzeros caps fits = go (R .k) refl
   where
-    go : (k : ℕ) → R .k ≡ k → Orderly R (fresh m n nonzeros cap k)
+    go : (k : ℕ) → R .k ≡ k → Orderly R (fresh m n nonzeros caps k)
     go zero e =
         record {
           legal = legal-empty R;
           ended = refl;
-          found = (record { long = sym e; marks = refl; starts = refl; fits = fits }, refl);
+          found = (record { long = sym e; marks = refl; allowed = refl; fits = fits }, refl);
         }
     go (suc k) e =
         record {
@@ -129,8 +130,8 @@ try-orderly R r o =
     (λ down. record { legal = advance-legal _ (o .legal); ended = refl; found = o .found })
 
 -- every walk from a fresh record is orderly
-pub walk-orderly : (R : Rules) (m n nonzeros cap tries : ℕ)
-    → R .valid [] ≡ true → Orderly R (walk R tries (fresh m n nonzeros cap (R .k)))
-walk-orderly R m n nonzeros cap tries fits =
+pub walk-orderly : (R : Rules) (m n nonzeros : ℕ) (caps : Caps) (tries : ℕ)
+    → R .valid [] ≡ true → Orderly R (walk R tries (fresh m n nonzeros caps (R .k)))
+walk-orderly R m n nonzeros caps tries fits =
     walk-keeps R (λ s. Orderly R s) (λ r going o. try-orderly R r o) tries _
-    (fresh-orderly R m n nonzeros cap fits)
+    (fresh-orderly R m n nonzeros caps fits)

@@ -10,7 +10,7 @@ use lib.ListN.{length}
 use borrow.Author.Tests.{leb-true}
 use Rattle.counting.specs.Tests.{_or_, pick}
 use Rattle.model.specs.Walk.{Rules, oneAllowed, afterZero, advance, cuts, isEmpty, putLater, beginningsLater, leastBound}
-use Rattle.model.specs.State.{areMarks, startsWithZero}
+use Rattle.model.specs.State.{areMarks, onesAllowed}
 use Rattle.counting.proofs.Joined.{and-left, and-right, no-way}
 use Rattle.model.proofs.Walk.Sound.{Begins, whole, longer, begins-length, Full, Sound}
 
@@ -25,21 +25,21 @@ among-right [] a = a
 among-right (τ ∷ τs) a = there (among-right τs a)
 
 -- the open markings of a search with this trail, none if it is empty
-unfoldable pub openBehind : List ℕ → List (List ℕ)
-openBehind τ = pick (isEmpty τ) [] (τ ∷ beginningsLater τ)
+unfoldable pub openBehind : Bool → List ℕ → List (List ℕ)
+openBehind first τ = pick (isEmpty τ) [] (τ ∷ beginningsLater first τ)
 
 -- what comes later than a trail is what is open behind the advanced trail
-pub advance-opens : (τ : List ℕ) → beginningsLater τ ≡ openBehind (advance τ)
+pub advance-opens : (first : Bool) (τ : List ℕ) → beginningsLater first τ ≡ openBehind first (advance first τ)
 unfolding advance afterZero pick beginningsLater putLater openBehind isEmpty
-advance-opens [] = refl
-advance-opens (zero ∷ τ) = go (oneAllowed τ)
+advance-opens first [] = refl
+advance-opens first (zero ∷ τ) = go (oneAllowed first τ)
   where
     go : (b : Bool)
-        → (pick b ((1 ∷ τ) ∷ []) [] ++ ((2 ∷ τ) ∷ [])) ++ beginningsLater τ ≡ openBehind (pick b 1 2 ∷ τ)
+        → (pick b ((1 ∷ τ) ∷ []) [] ++ ((2 ∷ τ) ∷ [])) ++ beginningsLater first τ ≡ openBehind first (pick b 1 2 ∷ τ)
     go true = refl
     go false = refl
-advance-opens (suc zero ∷ τ) = refl
-advance-opens (suc (suc x) ∷ τ) = advance-opens τ
+advance-opens first (suc zero ∷ τ) = refl
+advance-opens first (suc (suc x) ∷ τ) = advance-opens first τ
 
 -- what is among a list is among one that goes on
 pub among-left : {ν : List ℕ} {τs : List (List ℕ)} (σs : List (List ℕ)) → Among ν τs → Among ν (τs ++ σs)
@@ -52,36 +52,36 @@ among-longer x (here b) = here (longer b)
 among-longer x (there a) = there (among-longer x a)
 
 -- a marking with one legal mark more is the one with mark 0, or that one put later
-pub sibling : (x : ℕ) (τ : List ℕ)
-    → leb x 2 ≡ true → not (eqb x 1) or oneAllowed τ ≡ true → Among (x ∷ τ) ((0 ∷ τ) ∷ putLater (0 ∷ τ))
+pub sibling : (first : Bool) (x : ℕ) (τ : List ℕ)
+    → leb x 2 ≡ true → not (eqb x 1) or oneAllowed first τ ≡ true → Among (x ∷ τ) ((0 ∷ τ) ∷ putLater first (0 ∷ τ))
 unfolding putLater _or_ pick
-sibling zero τ small allowed = here whole
-sibling (suc zero) τ small allowed = rw allowed (there (here whole))
-sibling (suc (suc zero)) τ small allowed =
-    there (among-right (pick (oneAllowed τ) ((1 ∷ τ) ∷ []) []) (here whole))
-sibling (suc (suc (suc x))) τ small allowed = no-way (omega (arith, leb-true (suc (suc (suc x))) 2 small))
+sibling first zero τ small allowed = here whole
+sibling first (suc zero) τ small allowed = rw allowed (there (here whole))
+sibling first (suc (suc zero)) τ small allowed =
+    there (among-right (pick (oneAllowed first τ) ((1 ∷ τ) ∷ []) []) (here whole))
+sibling first (suc (suc (suc x))) τ small allowed = no-way (omega (arith, leb-true (suc (suc (suc x))) 2 small))
 
 -- a legal marking that goes on behind τ goes on with one of the marks that τ may be given
-pub next-mark : {τ ν : List ℕ} → Begins τ ν → length τ < length ν
-    → areMarks ν ≡ true → startsWithZero ν ≡ true → Among ν ((0 ∷ τ) ∷ putLater (0 ∷ τ))
-unfolding areMarks startsWithZero
-next-mark whole more marks starts = no-way (omega arith)
-next-mark {τ} (longer {x} whole) more marks starts =
-    sibling x τ (and-left _ _ marks) (and-left _ _ starts)
-next-mark (longer {x} (longer b)) more marks starts =
+pub next-mark : (first : Bool) {τ ν : List ℕ} → Begins τ ν → length τ < length ν
+    → areMarks ν ≡ true → onesAllowed first ν ≡ true → Among ν ((0 ∷ τ) ∷ putLater first (0 ∷ τ))
+unfolding areMarks onesAllowed
+next-mark first whole more marks allowed = no-way (omega arith)
+next-mark first {τ} (longer {x} whole) more marks allowed =
+    sibling first x τ (and-left _ _ marks) (and-left _ _ allowed)
+next-mark first (longer {x} (longer b)) more marks allowed =
     let l = begins-length b in
-    among-longer x (next-mark (longer b) (omega arith) (and-right _ _ marks) (and-right _ _ starts))
+    among-longer x (next-mark first (longer b) (omega arith) (and-right _ _ marks) (and-right _ _ allowed))
 
 -- a legal marking that goes on behind τ is open behind τ with mark 0
-pub grown-opens : {τ ν : List ℕ} → Begins τ ν → length τ < length ν
-    → areMarks ν ≡ true → startsWithZero ν ≡ true → Among ν (openBehind (0 ∷ τ))
+pub grown-opens : (first : Bool) {τ ν : List ℕ} → Begins τ ν → length τ < length ν
+    → areMarks ν ≡ true → onesAllowed first ν ≡ true → Among ν (openBehind first (0 ∷ τ))
 unfolding openBehind isEmpty pick beginningsLater
-grown-opens {τ} b more marks starts = among-left (beginningsLater τ) (next-mark b more marks starts)
+grown-opens first {τ} b more marks allowed = among-left (beginningsLater first τ) (next-mark first b more marks allowed)
 
 -- what comes later than τ is open behind τ with mark 0
-pub later-opens : (τ : List ℕ) {ν : List ℕ} → Among ν (beginningsLater τ) → Among ν (openBehind (0 ∷ τ))
+pub later-opens : (first : Bool) (τ : List ℕ) {ν : List ℕ} → Among ν (beginningsLater first τ) → Among ν (openBehind first (0 ∷ τ))
 unfolding openBehind isEmpty pick beginningsLater
-later-opens τ a = there (among-right (putLater (0 ∷ τ)) a)
+later-opens first τ a = there (among-right (putLater first (0 ∷ τ)) a)
 
 -- one marking more lowers the least bound or keeps it
 least-keeps : (b : Bool) (bound least : ℕ) → pick b (min bound least) least ≤ least

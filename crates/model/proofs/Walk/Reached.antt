@@ -3,11 +3,13 @@
 use mathlib.Core.Bool.{Bool, true, false, not}
 use mathlib.Core.List.{List}
 use mathlib.Core.Option.{Option, some, none}
-use mathlib.Core.Path.{_≡_, refl, sym, ap}
-use Prim.Native.Nat.{ℕ, zero, suc, _*_, _≤_}
-use native.Mathlib.Omega.{arith}
+use mathlib.Core.Path.{_≡_, refl, sym, _∙_, ap}
+use Prim.Native.Nat.{ℕ, zero, suc, _+_, _≤_}
+use lib.Dec.{leb}
 use borrow.Author.Tests.{le-leb, eq-eqb}
-use Rattle.model.specs.Limits.{capLimit, triesLimit}
+use Rattle.model.specs.declared.Caps.{Caps}
+use Rattle.model.specs.Limits.{triesLimit}
+use Rattle.model.specs.Split.{capsOutside}
 use Rattle.model.specs.Walk.{Record, Rules, fresh, isEmpty, tried, improved, tryOnce}
 use Rattle.model.specs.State.{trailFine, bestFine, stateFine}
 use Rattle.counting.proofs.Joined.{and-intro, never}
@@ -16,40 +18,40 @@ use Rattle.model.proofs.Walk.Steps.{after, try-keeps, walk-keeps}
 use Rattle.model.proofs.Walk.Legal.{Legal, Orderly, BestIs, walk-orderly}
 use Rattle.model.proofs.Walk.Exact.{Exact, complete-exact}
 
--- a record for this m, n, number of nonzeros and cap
-pub record For (m n nonzeros cap : ℕ) (r : Record) : Type 0 where
+-- a record for this m, n, number of nonzeros and caps
+pub record For (m n nonzeros : ℕ) (caps : Caps) (r : Record) : Type 0 where
   pub rows : r .m ≡ m
   pub columns : r .n ≡ n
   pub size : r .nonzeros ≡ nonzeros
-  pub limit : r .cap ≡ cap
+  pub limits : r .caps ≡ caps
 
 -- a fresh record is for what it is made of
-fresh-for : (m n nonzeros cap k : ℕ) → For m n nonzeros cap (fresh m n nonzeros cap k)
+fresh-for : (m n nonzeros : ℕ) (caps : Caps) (k : ℕ) → For m n nonzeros caps (fresh m n nonzeros caps k)
 unfolding fresh
-fresh-for m n nonzeros cap zero = record { rows = refl; columns = refl; size = refl; limit = refl }
-fresh-for m n nonzeros cap (suc k) = record { rows = refl; columns = refl; size = refl; limit = refl }
+fresh-for m n nonzeros caps zero = record { rows = refl; columns = refl; size = refl; limits = refl }
+fresh-for m n nonzeros caps (suc k) = record { rows = refl; columns = refl; size = refl; limits = refl }
 
 -- a try keeps what the record is for
-try-for : (R : Rules) {m n nonzeros cap : ℕ} (r : Record)
-    → For m n nonzeros cap r → For m n nonzeros cap (tryOnce R r)
+try-for : (R : Rules) {m n nonzeros : ℕ} {caps : Caps} (r : Record)
+    → For m n nonzeros caps r → For m n nonzeros caps (tryOnce R r)
 unfolding tried improved
-try-for R {m} {n} {nonzeros} {cap} r h =
-    try-keeps R r (λ s. For m n nonzeros cap s)
-    (λ up room. record { rows = h .rows; columns = h .columns; size = h .size; limit = h .limit })
-    (λ up long. record { rows = h .rows; columns = h .columns; size = h .size; limit = h .limit })
-    (λ down. record { rows = h .rows; columns = h .columns; size = h .size; limit = h .limit })
+try-for R {m} {n} {nonzeros} {caps} r h =
+    try-keeps R r (λ s. For m n nonzeros caps s)
+    (λ up room. record { rows = h .rows; columns = h .columns; size = h .size; limits = h .limits })
+    (λ up long. record { rows = h .rows; columns = h .columns; size = h .size; limits = h .limits })
+    (λ down. record { rows = h .rows; columns = h .columns; size = h .size; limits = h .limits })
 
--- a walk keeps m, n, the number of nonzeros and the cap
-pub walk-for : (R : Rules) (m n nonzeros cap tries : ℕ) → For m n nonzeros cap (after R m n nonzeros cap tries)
-walk-for R m n nonzeros cap tries =
-    walk-keeps R (λ s. For m n nonzeros cap s) (λ r going h. try-for R r h) tries _ (fresh-for m n nonzeros cap (R .k))
+-- a walk keeps m, n, the number of nonzeros and the caps
+pub walk-for : (R : Rules) (m n nonzeros : ℕ) (caps : Caps) (tries : ℕ) → For m n nonzeros caps (after R m n nonzeros caps tries)
+walk-for R m n nonzeros caps tries =
+    walk-keeps R (λ s. For m n nonzeros caps s) (λ r going h. try-for R r h) tries _ (fresh-for m n nonzeros caps (R .k))
 
 -- a legal trail, empty exactly if complete, is fine
 trail-fine : (R : Rules) (complete : Bool) (τ : List ℕ) → Legal R τ → complete ≡ isEmpty τ → trailFine R complete τ ≡ true
 unfolding trailFine
 trail-fine R true τ l ended = sym ended
 trail-fine R false τ l ended =
-    and-intro (and-intro (and-intro (and-intro (ap not (sym ended)) (le-leb _ _ (l .within))) (l .marks)) (l .starts)) (l .before)
+    and-intro (and-intro (and-intro (and-intro (ap not (sym ended)) (le-leb _ _ (l .within))) (l .marks)) (l .allowed)) (l .before)
 
 -- a best marking as it should be is fine, if a complete search has one
 best-fine : (R : Rules) (o : Option (List ℕ)) (count : ℕ) (complete : Bool) → BestIs R o count
@@ -60,19 +62,19 @@ best-fine R (some τ) count complete b found =
 best-fine R none count complete b found = and-intro (eq-eqb _ _ b) (ap not (found refl))
 
 -- an orderly record within the limits is not refused, if it has a best marking where it is complete
-pub orderly-fine : {R : Rules} {m n nonzeros cap : ℕ} (r : Record) → For m n nonzeros cap r → Orderly R r
-    → nonzeros ≤ 2 * cap → cap ≤ capLimit → r .tries ≤ triesLimit → (r .best ≡ none → r .complete ≡ false)
+pub orderly-fine : {R : Rules} {m n nonzeros : ℕ} {caps : Caps} (r : Record) → For m n nonzeros caps r → Orderly R r
+    → nonzeros ≤ caps .cap0 + caps .cap1 → capsOutside caps ≡ false → r .tries ≤ triesLimit → (r .best ≡ none → r .complete ≡ false)
     → stateFine R m n nonzeros r ≡ true
 unfolding stateFine
-orderly-fine {R} {m} {n} {nonzeros} {cap} r h o enough small few found =
+orderly-fine {R} {m} {n} {nonzeros} {caps} r h o enough small few found =
     and-intro
     (and-intro
     (and-intro
     (and-intro
     (and-intro
     (and-intro (and-intro (eq-eqb _ _ (h .rows)) (eq-eqb _ _ (h .columns))) (eq-eqb _ _ (h .size)))
-    (le-leb nonzeros (2 * r .cap) (omega (arith, h .limit))))
-    (le-leb (r .cap) capLimit (omega (arith, h .limit))))
+    (ap (λ (c : Caps). leb nonzeros (c .cap0 + c .cap1)) (h .limits) ∙ le-leb nonzeros (caps .cap0 + caps .cap1) enough))
+    (ap (λ (c : Caps). not (capsOutside c)) (h .limits) ∙ ap not small))
     (le-leb (r .tries) triesLimit few))
     (trail-fine R (r .complete) (r .trail) (o .legal) (o .ended)))
     (best-fine R (r .best) (r .bestCount) (r .complete) (o .found) found)
@@ -82,25 +84,25 @@ exact-found : {R : Rules} {r : Record} {A : Type 0} → Exact R r → r .best �
 exact-found {R} {r} e missing = never (cc (e .best))
 
 -- a walk without a best marking is not complete
-pub none-going : {R : Rules} (m n nonzeros cap tries : ℕ) → Sound R
-    → after R m n nonzeros cap tries .best ≡ none → after R m n nonzeros cap tries .complete ≡ false
-none-going {R} m n nonzeros cap tries S missing = go (after R m n nonzeros cap tries .complete) refl
+pub none-going : {R : Rules} (m n nonzeros : ℕ) (caps : Caps) (tries : ℕ) → Sound R
+    → after R m n nonzeros caps tries .best ≡ none → after R m n nonzeros caps tries .complete ≡ false
+none-going {R} m n nonzeros caps tries S missing = go (after R m n nonzeros caps tries .complete) refl
   where
-    go : (b : Bool) → after R m n nonzeros cap tries .complete ≡ b → after R m n nonzeros cap tries .complete ≡ false
-    go true done = exact-found (complete-exact m n nonzeros cap tries S done) missing
+    go : (b : Bool) → after R m n nonzeros caps tries .complete ≡ b → after R m n nonzeros caps tries .complete ≡ false
+    go true done = exact-found (complete-exact m n nonzeros caps tries S done) missing
     go false going = going
 
 -- a state that a walk reaches is not refused, within the limit on tries
 pub reached-fine :
-    {R : Rules} (m n nonzeros cap tries : ℕ) →
-    Sound R → nonzeros ≤ 2 * cap → cap ≤ capLimit → after R m n nonzeros cap tries .tries ≤ triesLimit →
-    stateFine R m n nonzeros (after R m n nonzeros cap tries) ≡ true
-reached-fine {R} m n nonzeros cap tries S enough small few =
+    {R : Rules} (m n nonzeros : ℕ) (caps : Caps) (tries : ℕ) →
+    Sound R → nonzeros ≤ caps .cap0 + caps .cap1 → capsOutside caps ≡ false → after R m n nonzeros caps tries .tries ≤ triesLimit →
+    stateFine R m n nonzeros (after R m n nonzeros caps tries) ≡ true
+reached-fine {R} m n nonzeros caps tries S enough small few =
     orderly-fine
-    (after R m n nonzeros cap tries)
-    (walk-for R m n nonzeros cap tries)
-    (walk-orderly R m n nonzeros cap tries (empty-valid S))
+    (after R m n nonzeros caps tries)
+    (walk-for R m n nonzeros caps tries)
+    (walk-orderly R m n nonzeros caps tries (empty-valid S))
     enough
     small
     few
-    (none-going m n nonzeros cap tries S)
+    (none-going m n nonzeros caps tries S)

@@ -1,6 +1,6 @@
 -- What a walk needs of its rules in order to be exact: beginnings, full markings, and sound bounds.
 -- Assumes nothing.
-use mathlib.Core.Bool.{true}
+use mathlib.Core.Bool.{Bool, true}
 use mathlib.Core.List.{List, [], _∷_}
 use mathlib.Core.Path.{_≡_, refl}
 use Prim.Native.Nat.{ℕ, zero, suc, _≤_}
@@ -8,7 +8,7 @@ use native.Mathlib.Omega.{arith}
 use lib.ListN.{length, replicate, length-replicate}
 use Rattle.counting.specs.Tests.{_and_, _or_, bit}
 use Rattle.model.specs.Walk.{Rules, cuts}
-use Rattle.model.specs.State.{areMarks, startsWithZero}
+use Rattle.model.specs.State.{areMarks, onesAllowed}
 use Rattle.counting.proofs.Joined.{no-way}
 
 -- τ is a beginning of ν
@@ -20,7 +20,7 @@ pub data Begins (τ : List ℕ) : List ℕ → Type 0 where
 pub record Full (R : Rules) (ν : List ℕ) : Type 0 where
   pub long : length ν ≡ R .k
   pub marks : areMarks ν ≡ true
-  pub starts : startsWithZero ν ≡ true
+  pub allowed : onesAllowed (R .oneFirst) ν ≡ true
   pub fits : R .valid ν ≡ true
 
 -- a sound bound: a beginning of a full marking is valid, with a bound of at most the full marking's cut lines;
@@ -52,10 +52,10 @@ all-cut-marks zero = refl
 all-cut-marks (suc k) = all-cut-marks k
 
 -- it has no mark 1
-pub all-cut-starts : (k : ℕ) → startsWithZero (replicate k 2) ≡ true
-unfolding startsWithZero _and_ _or_
-all-cut-starts zero = refl
-all-cut-starts (suc k) = all-cut-starts k
+pub all-cut-allowed : (first : Bool) (k : ℕ) → onesAllowed first (replicate k 2) ≡ true
+unfolding onesAllowed _and_ _or_
+all-cut-allowed first zero = refl
+all-cut-allowed first (suc k) = all-cut-allowed first k
 
 -- it cuts every line
 pub all-cut-cuts : (k : ℕ) → cuts (replicate k 2) ≡ k
@@ -70,7 +70,7 @@ module _ {R : Rules} (S : Sound R) where
       record {
         long = length-replicate (R .k) 2;
         marks = all-cut-marks (R .k);
-        starts = all-cut-starts (R .k);
+        allowed = all-cut-allowed (R .oneFirst) (R .k);
         fits = S .all-cut;
       }
 

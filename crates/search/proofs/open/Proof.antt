@@ -3,6 +3,7 @@
 use mathlib.Core.Path.{_≡_, sym, _∙_}
 use native.Mathlib.Omega.{arith}
 use Rattle.model.specs.declared.Verdict.the-variants.{Accepted}
+use Rattle.model.specs.Split.{capsOf}
 use Rattle.model.specs.Calls.{openVerdict}
 use Rattle.model.proofs.Theorems.Replies.{open-told}
 use Rattle.model.proofs.Theorems.Accepted.{ListFine, list-accepted, open-accepted}
@@ -16,7 +17,7 @@ use Rattle.search.proofs.open.Tie as tie
 accepted :
     (c : tie.At-match-keys1) →
     let a = c .before .before .before .args in
-    openVerdict (a .m) (a .n) (a .nonzeros) (a .list .now) (a .cap) ≡ Accepted
+    openVerdict (a .m) (a .n) (a .nonzeros) (a .list .now) (capsOf (a .cap0) (a .cap1)) ≡ Accepted
 accepted c = sym (c .before .open-verdict .ensures .0) ∙ accepted-tag _ (c .match .keys1)
 
 fine :

@@ -20,7 +20,7 @@ ghost use Rattle.model.specs.Limits.{triesLimit};
 ghost use Rattle.model.specs.declared.Verdict.the-variants.{Accepted};
 ghost use Rattle.model.specs.Pattern.{patternOf};
 ghost use Rattle.model.specs.Walk.{Record, rulesOf, walk};
-ghost use Rattle.model.specs.State.{recordOf, searchOf};
+ghost use Rattle.model.specs.State.{capsIn, recordOf, searchOf};
 ghost use Rattle.model.specs.Calls.{listVerdict, ended, ranAfter, runCall};
 ghost use Rattle.state.specs.Holding.{normalOf};
 ghost use Rattle.state.specs.Ready.{Fits, Ready};
@@ -51,7 +51,7 @@ fn run_from(
     requires { ⌜ search .tries + budget ≤ triesLimit ⌝ }
     ensures { λ s. ⌜ (Ready m n nonzeros (now (list .entry)) (now (places .entry)) (now (starts .entry)) k →
         (r : Record) → search ≡ searchOf r → Fits k r →
-        s ≡ searchOf (walk (rulesOf (patternOf m n nonzeros (now (list .entry))) (search .cap)) budget r)) ⌝ }
+        s ≡ searchOf (walk (rulesOf (patternOf m n nonzeros (now (list .entry))) (capsIn search)) budget r)) ⌝ }
 {
     let mut s = search;
     let mut made = 0u64;

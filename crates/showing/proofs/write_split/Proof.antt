@@ -18,13 +18,13 @@ use Rattle.showing.proofs.write_split.Statement.{statement}
 use Rattle.showing.proofs.write_split.Tie as tie
 
 abbrev Inv-loop : tie.InvT-loop
-Inv-loop m n nonzeros list cap marks zero parts₀ filled₀ t₀ parts filled t =
+Inv-loop m n nonzeros list caps marks zero parts₀ filled₀ t₀ parts filled t =
     (t ≤ nonzeros)
     × (length parts ≡ length parts₀)
-    × WrittenTo (patternOf m n nonzeros list) cap (markingIn marks) zero t filled parts₀ parts
+    × WrittenTo (patternOf m n nonzeros list) caps (markingIn marks) zero t filled parts₀ parts
 
 abbrev μ-loop : tie.MeasureT-loop
-μ-loop m n nonzeros list cap marks zero parts₀ filled₀ t₀ parts filled t = nonzeros - t
+μ-loop m n nonzeros list caps marks zero parts₀ filled₀ t₀ parts filled t = nonzeros - t
 
 -- the nonzero is taken by 0, and by 1
 first-is :
@@ -44,7 +44,7 @@ second-is c =
 loop-holds : tie.Need-loop-holds Inv-loop μ-loop
 loop-holds c =
     let a = c .before .before .args in
-    (omega arith, refl, written-start (patternOf (a .m) (a .n) (a .nonzeros) (a .list .now)) (a .cap) (markingIn (a .marks .now)) (a .zero) (a .parts .now))
+    (omega arith, refl, written-start (patternOf (a .m) (a .n) (a .nonzeros) (a .list .now)) (a .caps) (markingIn (a .marks .now)) (a .zero) (a .parts .now))
 
 row-of-requires : tie.Need-row-of-requires Inv-loop μ-loop
 row-of-requires c κs = search needs

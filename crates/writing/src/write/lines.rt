@@ -18,10 +18,10 @@ pub fn put_refused(page: &mut [u8], word: Word, place: u64) -> usize
     put_number(page, b, place, b'\n')
 }
 
-// "none yet cap C rest R tries T floor F".
-pub fn put_none(page: &mut [u8], cap: u64, rest: u64, tries: u64, floor: u64) -> usize
-    ensures { λ r. ⌜ Puts (now (page .entry)) 0 (noneText cap rest tries floor) (now (page .exit)) r ⌝ }
+// "none yet caps C0 C1 rest R tries T floor F".
+pub fn put_none(page: &mut [u8], cap0: u64, cap1: u64, rest: u64, tries: u64, floor: u64) -> usize
+    ensures { λ r. ⌜ Puts (now (page .entry)) 0 (noneText cap0 cap1 rest tries floor) (now (page .exit)) r ⌝ }
 {
     let next = put_bytes(page, 0, b"none yet ");
-    put_figures(page, next, cap, rest, tries, floor, b'\n')
+    put_figures(page, next, cap0, cap1, rest, tries, floor, b'\n')
 }

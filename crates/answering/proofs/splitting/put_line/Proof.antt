@@ -22,21 +22,21 @@ put-refused-requires : tie.Need-put-refused-requires
 put-refused-requires c κs = search needs
 
 returns : tie.Need-returns
-returns c = let a = c .before .before .before .args in line-split (a .cap) (a .rest) (a .tries) (a .shown) (a .out .now) (c .before .match .keys1)
+returns c = let a = c .before .before .before .args in line-split (a .cap0) (a .cap1) (a .rest) (a .tries) (a .shown) (a .out .now) (c .before .match .keys1)
 
 same-length : tie.Need-same-length
 same-length c = search needs
 
 returns-2 : tie.Need-returns-2
 unfolding lineText
-returns-2 c = line-as _ _ _ (c .before .before .before .before .before .shown .given .1) (c .before .before .put-none .ensures)
+returns-2 c = line-as _ _ _ _ (c .before .before .before .before .before .shown .given .1) (c .before .before .put-none .ensures)
 
 same-length-2 : tie.Need-same-length-2
 same-length-2 c = search needs
 
 returns-3 : tie.Need-returns-3
 unfolding lineText
-returns-3 c = line-as _ _ _ (c .before .before .before .before .before .shown2 .given .1) (c .before .before .put-refused .ensures)
+returns-3 c = line-as _ _ _ _ (c .before .before .before .before .before .shown2 .given .1) (c .before .before .put-refused .ensures)
 
 pub put-line-spec : {M : Type 1} → statement M
 put-line-spec =

@@ -49,7 +49,7 @@ returns c = λ k placed τ short em el.
     short
     em
     el)
-    (a .cap)
+    (a .caps)
     (c .evaluate-lines .result)
     (c .evaluate-lines .ensures k)
 

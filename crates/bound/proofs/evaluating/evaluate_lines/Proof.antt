@@ -50,7 +50,7 @@ returns-2 c = λ k.
     let a = e .before .before .before .args in
     not-valid
     (patternOf (a .m) (a .n) (a .nonzeros) (a .list .now))
-    (a .cap)
+    (a .caps)
     (markingIn (a .marks .now))
     (t .take-lines .result)
     (e .before .no-lines .result)

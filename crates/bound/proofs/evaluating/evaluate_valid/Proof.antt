@@ -36,7 +36,7 @@ returns c = λ k t v.
     let right = leans-at (a .m) (a .n) (a .nonzeros) (a .list .now) (a .marks .now) few t leaning in
     c .joined .ensures
     (patternOf (a .m) (a .n) (a .nonzeros) (a .list .now))
-    (a .cap)
+    (a .caps)
     (markingIn (a .marks .now))
     (parts-are
     (a .m)
@@ -47,7 +47,7 @@ returns c = λ k t v.
     few
     t
     leaning
-    (a .cap)
+    (a .caps)
     (c .before .before .before .before .room-of .result)
     (c .before .before .before .room-of2 .result)
     (c .before .lower-of .result)

@@ -33,7 +33,7 @@ add-t10 c =
     (j .if1 .came)
 
 returns : tie.Need-returns
-returns c = λ P cap μ p.
+returns c = λ P caps μ p.
     let b = c .before in
     let j = b .before .before in
     let f = j .before in

@@ -1,11 +1,18 @@
 -- `flooring::least_later` meets its contract.
 -- Assumes nothing.
+use mathlib.Core.Bool.{Bool}
+use mathlib.Core.Path.{_∙_, ap}
 use Rattle.model.specs.Pattern.{patternOf}
+use Rattle.model.specs.Split.{unequal}
 use Rattle.model.specs.Walk.{rulesOf}
+use Rattle.flooring.specs.Least.{mayOne}
 use Rattle.flooring.proofs.Later.{later-is}
 use borrow.Author.Needs.{needs}
 use Rattle.flooring.proofs.least.least_later.Statement.{statement}
 use Rattle.flooring.proofs.least.least_later.Tie as tie
+
+unequal-caps-requires : tie.Need-unequal-caps-requires
+unequal-caps-requires c κs = search needs
 
 may-one-requires : tie.Need-may-one-requires
 may-one-requires c κs = search needs
@@ -30,9 +37,10 @@ returns c =
     λ k placed.
     let put = c .before .before in
     let may = put .before .before in
-    let a = may .before .before .before .args in
+    let a = may .before .before .before .before .args in
     later-is
-    (rulesOf (patternOf (a .m) (a .n) (a .nonzeros) (a .list .now)) (a .cap))
+    (rulesOf (patternOf (a .m) (a .n) (a .nonzeros) (a .list .now)) (a .caps))
+    (unequal (a .caps))
     (a .trail)
     _
     _
@@ -41,7 +49,7 @@ returns c =
     (a .least)
     _
     _
-    (may .before .may-one .ensures)
+    (may .before .may-one .ensures ∙ ap (λ (first : Bool). mayOne first (a .trail)) (may .before .before .unequal-caps .ensures))
     (may .may-cut .ensures)
     (put .before .replace-last .ensures)
     (put .replace-last2 .ensures)
@@ -52,6 +60,7 @@ pub least-later-spec : {M : Type 1} → statement M
 least-later-spec =
     tie.close
     (tie.spec
+    unequal-caps-requires
     may-one-requires
     may-cut-requires
     replace-last-requires

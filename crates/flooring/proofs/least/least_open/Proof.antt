@@ -9,6 +9,7 @@ use lib.ListN.{length}
 use Rattle.trail.specs.declared.Trail.{Trail}
 use Rattle.trail.proofs.Methods.{drops}
 use Rattle.model.specs.Pattern.{patternOf}
+use Rattle.model.specs.Split.{unequal}
 use Rattle.model.specs.Walk.{rulesOf, leastBound, beginningsLater}
 use Rattle.model.specs.State.{trailOf}
 use Rattle.bound.specs.Evaluated.{Listed, Placed}
@@ -18,13 +19,13 @@ use Rattle.flooring.proofs.least.least_open.Statement.{statement}
 use Rattle.flooring.proofs.least.least_open.Tie as tie
 
 abbrev Inv-loop : tie.InvT-loop
-Inv-loop m n nonzeros list cap places starts least s₀ so-far₀ s so-far =
+Inv-loop m n nonzeros list caps places starts least s₀ so-far₀ s so-far =
     Listed m n nonzeros list starts → Placed (patternOf m n nonzeros list) places →
     (τ : List ℕ) → length τ ≤ 240 → s₀ ≡ trailOf τ →
-    Left (rulesOf (patternOf m n nonzeros list) cap) (leastBound (rulesOf (patternOf m n nonzeros list) cap) so-far₀ (beginningsLater τ)) s so-far
+    Left (rulesOf (patternOf m n nonzeros list) caps) (unequal caps) (leastBound (rulesOf (patternOf m n nonzeros list) caps) so-far₀ (beginningsLater (unequal caps) τ)) s so-far
 
 abbrev μ-loop : tie.MeasureT-loop
-μ-loop m n nonzeros list cap places starts least s₀ so-far₀ s so-far = s .len
+μ-loop m n nonzeros list caps places starts least s₀ so-far₀ s so-far = s .len
 
 least-with-requires : tie.Need-least-with-requires Inv-loop μ-loop
 least-with-requires c κs = search needs
@@ -57,10 +58,11 @@ loop-again c =
     let f = c .before .before .before in
     let l = f .before in
     let a = l .before .before .before .args in
-    let R = rulesOf (patternOf (a .m) (a .n) (a .nonzeros) (a .list .now)) (a .cap) in
+    let R = rulesOf (patternOf (a .m) (a .n) (a .nonzeros) (a .list .now)) (a .caps) in
     left-again
     R
-    (leastBound R (l .before .least-with .result) (beginningsLater τ))
+    (unequal (a .caps))
+    (leastBound R (l .before .least-with .result) (beginningsLater (unequal (a .caps)) τ))
     (l .loop .s)
     (c .drop .result)
     (l .loop .so-far)
@@ -75,16 +77,17 @@ returns c =
     λ k placed τ short held.
     let l = c .before .before in
     let a = l .before .before .before .args in
-    let R = rulesOf (patternOf (a .m) (a .n) (a .nonzeros) (a .list .now)) (a .cap) in
+    let R = rulesOf (patternOf (a .m) (a .n) (a .nonzeros) (a .list .now)) (a .caps) in
     left-done
     R
-    (leastBound R (l .before .least-with .result) (beginningsLater τ))
+    (unequal (a .caps))
+    (leastBound R (l .before .least-with .result) (beginningsLater (unequal (a .caps)) τ))
     (l .loop .s)
     (l .loop .so-far)
     (sym (c .before .has-last .ensures) ∙ c .if1 .left)
     (l .loop .inv k placed τ short held)
-    ∙ ap (λ (x : ℕ). leastBound R x (beginningsLater τ)) (l .before .least-with .ensures k placed τ short held)
-    ∙ sym (least-first R (a .least) τ (beginningsLater τ))
+    ∙ ap (λ (x : ℕ). leastBound R x (beginningsLater (unequal (a .caps)) τ)) (l .before .least-with .ensures k placed τ short held)
+    ∙ sym (least-first R (a .least) τ (beginningsLater (unequal (a .caps)) τ))
 
 pub least-open-spec : {M : Type 1} → statement M
 least-open-spec =

@@ -4,7 +4,7 @@ use borrow.Author.Tests.{ne-eqb, eq-eqb}
 use mathlib.Core.Path.{sym, _∙_}
 use native.Mathlib.Omega.{arith}
 use Rattle.counting.proofs.Joined.{no-way, and-fails-left, and-passed}
-use Rattle.trail.specs.Trail.{lastMark, partBefore}
+use Rattle.trail.specs.Trail.{lastMark, mayBeOne}
 use Rattle.flooring.specs.Least.{mayOne}
 use borrow.Author.Needs.{needs}
 use Rattle.flooring.proofs.least.may_one.Statement.{statement}
@@ -16,18 +16,18 @@ last-requires c κs = search needs
 returns : tie.Need-returns
 unfolding mayOne
 returns c =
-    let t = c .before .before .args .trail in
-    sym (and-fails-left (partBefore t) (ne-eqb (lastMark t 2) 0 (λ e. no-way (omega (arith, c .if1 .taken, c .before .last .ensures)))))
+    let a = c .before .before .args in
+    sym (and-fails-left (mayBeOne (a .first) (a .trail)) (ne-eqb (lastMark (a .trail) 2) 0 (λ e. no-way (omega (arith, c .if1 .taken, c .before .last .ensures)))))
 
-part-before-requires : tie.Need-part-before-requires
-part-before-requires c κs = search needs
+may-be-one-requires : tie.Need-may-be-one-requires
+may-be-one-requires c κs = search needs
 
 returns-2 : tie.Need-returns-2
 unfolding mayOne
 returns-2 c =
-    let t = c .before .before .before .args .trail in
-    c .part-before .ensures
-    ∙ sym (and-passed (partBefore t) (eq-eqb (lastMark t 2) 0 (omega (arith, c .before .if1 .left, c .before .before .last .ensures))))
+    let a = c .before .before .before .args in
+    c .may-be-one .ensures
+    ∙ sym (and-passed (mayBeOne (a .first) (a .trail)) (eq-eqb (lastMark (a .trail) 2) 0 (omega (arith, c .before .if1 .left, c .before .before .last .ensures))))
 
 pub may-one-spec : {M : Type 1} → statement M
-may-one-spec = tie.close (tie.spec last-requires returns part-before-requires returns-2)
+may-one-spec = tie.close (tie.spec last-requires returns may-be-one-requires returns-2)

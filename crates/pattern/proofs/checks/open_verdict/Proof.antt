@@ -18,7 +18,7 @@ and-then-requires c κs = search needs
 
 returns : tie.Need-returns
 unfolding openReplies
-returns c = verdict-told _ (cc (open-is (c .before .before .before .before .args .m) (c .before .before .before .before .args .n) (c .before .before .before .before .args .nonzeros) (c .before .before .before .before .args .list .now) (c .before .before .before .before .args .cap)))
+returns c = verdict-told _ (cc (open-is (c .before .before .before .before .args .m) (c .before .before .before .before .args .n) (c .before .before .before .before .args .nonzeros) (c .before .before .before .before .args .list .now) (c .before .before .before .before .args .caps)))
 
 pub open-verdict-spec : {M : Type 1} → statement M
 open-verdict-spec =

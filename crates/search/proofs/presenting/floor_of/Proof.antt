@@ -4,7 +4,7 @@ use mathlib.Core.Path.{_∙_}
 use native.Mathlib.Omega.{arith}
 use Rattle.model.specs.Pattern.{patternOf}
 use Rattle.model.specs.Walk.{rulesOf}
-use Rattle.model.specs.State.{marksIn}
+use Rattle.model.specs.State.{capsIn, marksIn}
 use Rattle.state.proofs.Normal.{cleared-is}
 use Rattle.state.proofs.StateLaws.{marks-length}
 use Rattle.search.proofs.Shows.{floor-done, floor-open}
@@ -22,12 +22,13 @@ least-open-requires : tie.Need-least-open-requires
 least-open-requires c κs = search needs
 
 returns-2 : tie.Need-returns-2
+unfolding rulesOf
 returns-2 c =
     λ listed placed short.
     let a = c .before .before .before .before .args in
     let τ = marksIn (a .search .trail) in
     floor-open
-    (rulesOf (patternOf (a .m) (a .n) (a .nonzeros) (a .list .now)) (a .search .cap))
+    (rulesOf (patternOf (a .m) (a .n) (a .nonzeros) (a .list .now)) (capsIn (a .search)))
     (a .search)
     (c .least-open .result)
     (c .before .before .if1 .left)

@@ -38,8 +38,8 @@ returns c =
     let s = h .before .before .before in
     let a = s .args in
     let few : t .result < 512 = omega (arith, t .ensures, s .fits) in
-    let parts = parts-shown (a .m) (a .n) (a .nonzeros) (a .list .now) (a .places .now) (a .starts .now) (a .cap) (t .result) (a .best) (h .cleared .result) (k .marks-by-line .result) (a .parts .now) _ (j .evaluate-lines .result) (h .cleared .ensures) (t .ensures) few (k .marks-by-line .ensures) (j .evaluate-lines .ensures) (w .write-split .ensures) in
-    let volume = volume-shown (a .m) (a .n) (a .nonzeros) (a .list .now) (a .places .now) (a .starts .now) (a .cap) (t .result) (a .best) (h .cleared .result) (k .marks-by-line .result) (a .parts .now) _ (j .evaluate-lines .result) (h .cleared .ensures) (t .ensures) few (k .marks-by-line .ensures) (j .evaluate-lines .ensures) (w .write-split .ensures) in
+    let parts = parts-shown (a .m) (a .n) (a .nonzeros) (a .list .now) (a .places .now) (a .starts .now) (a .caps) (t .result) (a .best) (h .cleared .result) (k .marks-by-line .result) (a .parts .now) _ (j .evaluate-lines .result) (h .cleared .ensures) (t .ensures) few (k .marks-by-line .ensures) (j .evaluate-lines .ensures) (w .write-split .ensures) in
+    let volume = volume-shown (a .m) (a .n) (a .nonzeros) (a .list .now) (a .places .now) (a .starts .now) (a .caps) (t .result) (a .best) (h .cleared .result) (k .marks-by-line .result) (a .parts .now) _ (j .evaluate-lines .result) (h .cleared .ensures) (t .ensures) few (k .marks-by-line .ensures) (j .evaluate-lines .ensures) (w .write-split .ensures) in
     (λ listed placed short room. volume listed placed short (c .volume-of .result) room (c .volume-of .ensures), λ listed placed short. parts listed placed short)
 
 pub show-split-spec : {M : Type 1} → statement M

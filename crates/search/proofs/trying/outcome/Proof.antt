@@ -19,10 +19,11 @@ tried-requires c κs = search needs
 returns : tie.Need-returns
 unfolding outcomeBy
 returns c =
-    let s = c .before .before .before .before .before .before .args .search in
+    let a = c .before .before .before .before .before .before .args in
+    let s = a .search in
     c .tried .ensures
     ∙ ap (triedTo s) (c .before .append .ensures)
-    ∙ outcome-by true true s (c .before .before .before .if1 .taken) (c .before .before .if2 .taken)
+    ∙ outcome-by (a .first) true true s (c .before .before .before .if1 .taken) (c .before .before .if2 .taken)
 
 improved-requires : tie.Need-improved-requires
 improved-requires c κs = search needs
@@ -38,11 +39,12 @@ returns-2 : tie.Need-returns-2
 unfolding outcomeBy
 returns-2 c =
     let b = c .before .before .before in
-    let s = b .before .before .before .before .args .search in
+    let a = b .before .before .before .before .args in
+    let s = a .search in
     c .tried2 .ensures
     ∙ ap (λ (x : Search). triedTo x (c .before .advance .result)) (c .before .before .improved .ensures)
     ∙ ap (triedTo (improvedBy s)) (c .before .advance .ensures)
-    ∙ outcome-by true false s (b .before .if1 .taken) (b .if2 .left)
+    ∙ outcome-by (a .first) true false s (b .before .if1 .taken) (b .if2 .left)
 
 advance-requires-2 : tie.Need-advance-requires-2
 advance-requires-2 c κs = search needs
@@ -54,10 +56,11 @@ returns-3 : tie.Need-returns-3
 unfolding outcomeBy
 returns-3 c =
     let b = c .before .before in
-    let s = b .before .before .before .args .search in
+    let a = b .before .before .before .args in
+    let s = a .search in
     c .tried3 .ensures
     ∙ ap (triedTo s) (c .before .advance2 .ensures)
-    ∙ outcome-by false _ s (b .if1 .left) refl
+    ∙ outcome-by (a .first) false _ s (b .if1 .left) refl
 
 pub outcome-spec : {M : Type 1} → statement M
 outcome-spec =

@@ -4,8 +4,9 @@ use mathlib.Core.Path.{_∙_, ap}
 use mathlib.Core.Bool.{Bool}
 use Prim.Native.Nat.{ℕ}
 use lib.Dec.{ltb}
-use Rattle.search.specs.Trying.{outcomeBy}
-use Rattle.search.specs.Trying.{standsBy}
+use Rattle.model.specs.Split.{unequal}
+use Rattle.model.specs.State.{capsIn}
+use Rattle.search.specs.Trying.{standsBy, outcomeBy}
 use Rattle.search.proofs.Tries.{outcome-tries}
 use Rattle.search.proofs.TryLaws.{try-is}
 use borrow.Author.Needs.{needs}
@@ -21,13 +22,18 @@ judged-stands-requires c κs = search needs
 wide16-requires : tie.Need-wide16-requires
 wide16-requires c κs = search needs
 
+unequal-caps-requires : tie.Need-unequal-caps-requires
+unequal-caps-requires c κs = search needs
+
 outcome-requires : tie.Need-outcome-requires
 outcome-requires c κs = search needs
 
 returns : tie.Need-returns
 returns c =
-    let a = c .before .before .before .before .before .before .before .before .args in (
-      outcome-tries _ _ (a .search) _ (c .outcome .ensures),
+    let wide = c .before .before in
+    let stands = wide .before in
+    let a = c .before .before .before .before .before .before .before .before .before .args in (
+      outcome-tries _ _ _ (a .search) _ (c .outcome .ensures),
       try-is
           (a .m)
           (a .n)
@@ -37,17 +43,24 @@ returns c =
           (a .starts .now)
           (a .k)
           (a .search)
-          (c .before .before .before .evaluate .result)
+          (c .before .before .before .before .evaluate .result)
           (c .outcome .result)
           (record {
-            judged = c .before .before .before .evaluate .ensures;
+            judged = c .before .before .before .before .evaluate .ensures;
             ended = c .outcome .ensures
-                ∙ ap (λ (up : Bool). outcomeBy up (ltb (a .search .trail .len) (c .before .wide16 .result)) (a .search)) (c .before .before .judged-stands .ensures)
-                ∙ ap (λ (l : ℕ). outcomeBy (standsBy (c .before .before .before .evaluate .result) (a .search .«best_count»)) (ltb (a .search .trail .len) l) (a .search)) (c .before .wide16 .ensures .0);
+                ∙ ap
+                (λ (first : Bool). outcomeBy first (stands .judged-stands .result) (ltb (a .search .trail .len) (wide .wide16 .result)) (a .search))
+                (c .before .unequal-caps .ensures)
+                ∙ ap
+                (λ (up : Bool). outcomeBy (unequal (capsIn (a .search))) up (ltb (a .search .trail .len) (wide .wide16 .result)) (a .search))
+                (stands .judged-stands .ensures)
+                ∙ ap
+                (λ (l : ℕ). outcomeBy (unequal (capsIn (a .search))) (standsBy (stands .before .evaluate .result) (a .search .«best_count»)) (ltb (a .search .trail .len) l) (a .search))
+                (wide .wide16 .ensures .0);
           }),
     )
 
 pub try-once-spec : {M : Type 1} → statement M
 try-once-spec =
     tie.close
-    (tie.spec evaluate-requires judged-stands-requires wide16-requires outcome-requires returns)
+    (tie.spec evaluate-requires judged-stands-requires wide16-requires unequal-caps-requires outcome-requires returns)

@@ -25,6 +25,9 @@ numbers-fine-requires c κs = search needs
 wide16-requires : tie.Need-wide16-requires
 wide16-requires c κs = search needs
 
+unequal-caps-requires : tie.Need-unequal-caps-requires
+unequal-caps-requires c κs = search needs
+
 trail-fine-requires : tie.Need-trail-fine-requires
 trail-fine-requires c κs = search needs
 
@@ -42,7 +45,7 @@ returns c =
     λ ready.
     let best = c .before .before in
     let trail = best .before in
-    let numbers = trail .before .before in
+    let numbers = trail .before .before .before in
     let full = numbers .before in
     let begins = full .before in
     let dropped = begins .before in
@@ -70,7 +73,12 @@ returns c =
       full-is = full .valid-of2 .ensures;
       numbers-are = numbers .numbers-fine .ensures;
       trail-test = trail .trail-fine .ensures
-          ∙ ap (λ (j : ℕ). trailBy (a .search .complete) (a .search .trail) j (begins .valid-of .result)) (trail .before .wide16 .ensures .0);
+          ∙ ap
+          (λ (j : ℕ). trailBy (a .search .complete) (a .search .trail) j (begins .valid-of .result) (trail .before .unequal-caps .result))
+          (trail .before .before .wide16 .ensures .0)
+          ∙ ap
+          (λ (first : Bool). trailBy (a .search .complete) (a .search .trail) (a .k) (begins .valid-of .result) first)
+          (trail .before .unequal-caps .ensures);
       best-test = best .best-fine .ensures;
     })
     ready
@@ -84,6 +92,7 @@ state-fine-spec =
     valid-of-requires-2
     numbers-fine-requires
     wide16-requires
+    unequal-caps-requires
     trail-fine-requires
     best-fine-requires
     both-of-requires

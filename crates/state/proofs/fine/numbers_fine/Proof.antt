@@ -1,7 +1,11 @@
 -- `state::numbers_fine` meets its contract.
 -- Assumes nothing.
-use borrow.Author.Tests.{eq-eqb, ne-eqb, le-leb, lt-leb}
+use mathlib.Core.Path.{sym, _∙_}
+use native.Mathlib.Omega.{arith}
+use borrow.Author.Tests.{eq-eqb, ne-eqb, lt-leb}
 use Rattle.counting.specs.Tests.{_and_}
+use Rattle.model.specs.declared.Part.the-variants.{Zero, One}
+use Rattle.model.proofs.Theorems.Accepted.{caps-ranged}
 use Rattle.state.specs.StateBy.{numbersBy}
 use Rattle.state.proofs.States.{numbers-last}
 use borrow.Author.Needs.{needs}
@@ -20,31 +24,52 @@ returns-3 : tie.Need-returns-3
 unfolding numbersBy _and_
 returns-3 c = simp (eq-eqb _ _ (c .before .before .if1 .left), eq-eqb _ _ (c .before .if2 .left), ne-eqb _ _ (c .if3 .taken))
 
+caps-outside-requires : tie.Need-caps-outside-requires
+caps-outside-requires c κs = search needs
+
 returns-4 : tie.Need-returns-4
 unfolding numbersBy _and_
-returns-4 c = simp (eq-eqb _ _ (c .before .before .before .if1 .left), eq-eqb _ _ (c .before .before .if2 .left), eq-eqb _ _ (c .before .if3 .left), lt-leb _ _ (c .if4 .taken))
+returns-4 c =
+    simp (
+      eq-eqb _ _ (c .before .before .before .before .if1 .left),
+      eq-eqb _ _ (c .before .before .before .if2 .left),
+      eq-eqb _ _ (c .before .before .if3 .left),
+      sym (c .before .caps-outside .ensures) ∙ c .if4 .taken,
+    )
 
-mul-if5 : tie.Need-mul-if5
-mul-if5 c = search needs
+add-if5 : tie.Need-add-if5
+add-if5 c =
+    let small = sym (c .before .before .caps-outside .ensures) ∙ c .before .if4 .left in
+    record { fits = omega (arith, caps-ranged _ small Zero, caps-ranged _ small One) }
 
 returns-5 : tie.Need-returns-5
 unfolding numbersBy _and_
-returns-5 c = simp (eq-eqb _ _ (c .before .before .before .before .if1 .left), eq-eqb _ _ (c .before .before .before .if2 .left), eq-eqb _ _ (c .before .before .if3 .left), le-leb _ _ (c .before .if4 .left), lt-leb _ _ (c .if5 .taken))
+returns-5 c =
+    let ranged = c .before .before in
+    simp (
+      eq-eqb _ _ (ranged .before .before .before .before .if1 .left),
+      eq-eqb _ _ (ranged .before .before .before .if2 .left),
+      eq-eqb _ _ (ranged .before .before .if3 .left),
+      sym (ranged .before .caps-outside .ensures) ∙ ranged .if4 .left,
+      lt-leb _ _ (c .if5 .taken),
+    )
 
 returns-6 : tie.Need-returns-6
 returns-6 c =
-    let s = c .before .before .before .before .before .args .search in
+    let ranged = c .before .before in
+    let sizes = ranged .before .before in
     numbers-last
-    s
     _
     _
     _
-    (c .before .before .before .before .if1 .left)
-    (c .before .before .before .if2 .left)
-    (c .before .before .if3 .left)
-    (c .before .if4 .left)
+    _
+    (sizes .before .before .if1 .left)
+    (sizes .before .if2 .left)
+    (sizes .if3 .left)
+    (sym (ranged .before .caps-outside .ensures) ∙ ranged .if4 .left)
     (c .if5 .left)
 
 pub numbers-fine-spec : {M : Type 1} → statement M
 numbers-fine-spec =
-    tie.close (tie.spec returns returns-2 returns-3 returns-4 mul-if5 returns-5 returns-6)
+    tie.close
+    (tie.spec returns returns-2 returns-3 caps-outside-requires returns-4 add-if5 returns-5 returns-6)

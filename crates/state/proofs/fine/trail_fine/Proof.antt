@@ -23,8 +23,8 @@ returns-3 c = simp (c .before .before .if1 .left, ne-eqb _ _ (c .before .if2 .le
 are-marks-requires : tie.Need-are-marks-requires
 are-marks-requires c κs = search needs
 
-starts-with-zero-requires : tie.Need-starts-with-zero-requires
-starts-with-zero-requires c κs = search needs
+ones-allowed-requires : tie.Need-ones-allowed-requires
+ones-allowed-requires c κs = search needs
 
 returns-4 : tie.Need-returns-4
 unfolding trailBy _and_
@@ -35,7 +35,7 @@ returns-4 c =
       le-leb _ _ (c .before .before .before .before .before .before .if3 .left),
       c .before .before .before .before .before .if4 .taken,
       sym (c .before .before .before .are-marks .ensures) ∙ c .before .before .if5 .taken,
-      c .starts-with-zero .ensures,
+      c .ones-allowed .ensures,
     )
 
 returns-5 : tie.Need-returns-5
@@ -61,7 +61,7 @@ trail-fine-spec =
     returns-2
     returns-3
     are-marks-requires
-    starts-with-zero-requires
+    ones-allowed-requires
     returns-4
     returns-5
     returns-6)

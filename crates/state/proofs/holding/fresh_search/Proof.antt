@@ -15,7 +15,7 @@ blank-requires c κs = search needs
 returns : tie.Need-returns
 returns c =
     let a = c .before .before .args in
-    c .blank .ensures ∙ ap (λ (k : ℕ). searchOf (fresh (a .m) (a .n) (a .nonzeros) (a .cap) k)) (sym (c .before .if1 .taken))
+    c .blank .ensures ∙ ap (λ (k : ℕ). searchOf (fresh (a .m) (a .n) (a .nonzeros) (a .caps) k)) (sym (c .before .if1 .taken))
 
 sub-begun : tie.Need-sub-begun
 sub-begun c = search needs
@@ -27,7 +27,7 @@ returns-2 : tie.Need-returns-2
 returns-2 c =
     let a = c .before .before .args in
     let e : suc (a .k - 1) ≡ a .k = omega arith in
-    c .begun .ensures ∙ ap (λ (k : ℕ). searchOf (fresh (a .m) (a .n) (a .nonzeros) (a .cap) k)) e
+    c .begun .ensures ∙ ap (λ (k : ℕ). searchOf (fresh (a .m) (a .n) (a .nonzeros) (a .caps) k)) e
 
 pub fresh-search-spec : {M : Type 1} → statement M
 fresh-search-spec = tie.close (tie.spec blank-requires returns sub-begun begun-requires returns-2)

@@ -16,7 +16,7 @@ put-figures-requires : tie.Need-put-figures-requires
 put-figures-requires c κs = omega (arith, ends-within (figure-short _ _) (c .before .before .before .put-figure .ensures))
 
 put-ending-requires : tie.Need-put-ending-requires
-put-ending-requires c κs = omega (arith, ends-within (figures-short _ _ _ _ _) (c .before .before .before .put-figures .ensures), ends-within (figure-short _ _) (c .before .before .before .before .before .before .before .put-figure .ensures))
+put-ending-requires c κs = omega (arith, ends-within (figures-short _ _ _ _ _ _) (c .before .before .before .put-figures .ensures), ends-within (figure-short _ _) (c .before .before .before .before .before .before .before .put-figure .ensures))
 
 same-length : tie.Need-same-length
 same-length c = search needs

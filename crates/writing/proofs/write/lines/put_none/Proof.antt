@@ -18,7 +18,7 @@ same-length : tie.Need-same-length
 same-length c = search needs
 
 returns : tie.Need-returns
-returns c = puts-none-yet _ _ _ _ (c .before .before .before .before .before .before .put-bytes .ensures) (c .before .before .put-figures .ensures)
+returns c = puts-none-yet _ _ _ _ _ (c .before .before .before .before .before .before .put-bytes .ensures) (c .before .before .put-figures .ensures)
 
 pub put-none-spec : {M : Type 1} → statement M
 put-none-spec =

@@ -1,10 +1,10 @@
--- `state::part_so_far` meets its contract.
+-- `state::allowed_behind` meets its contract.
 -- Assumes nothing.
 use mathlib.Core.Path.{sym, _∙_}
 use Rattle.counting.proofs.Joined.{or-left, or-passed}
 use borrow.Author.Needs.{needs}
-use Rattle.state.proofs.legal.part_so_far.Statement.{statement}
-use Rattle.state.proofs.legal.part_so_far.Tie as tie
+use Rattle.state.proofs.legal.allowed_behind.Statement.{statement}
+use Rattle.state.proofs.legal.allowed_behind.Tie as tie
 
 is-part-requires : tie.Need-is-part-requires
 is-part-requires c κs = search needs
@@ -15,5 +15,5 @@ returns c = sym (or-left _ (sym (c .before .is-part .ensures) ∙ c .if1 .taken)
 returns-2 : tie.Need-returns-2
 returns-2 c = sym (or-passed _ (sym (c .before .is-part .ensures) ∙ c .if1 .left))
 
-pub part-so-far-spec : {M : Type 1} → statement M
-part-so-far-spec = tie.close (tie.spec is-part-requires returns returns-2)
+pub allowed-behind-spec : {M : Type 1} → statement M
+allowed-behind-spec = tie.close (tie.spec is-part-requires returns returns-2)
