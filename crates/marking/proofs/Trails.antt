@@ -13,7 +13,7 @@ use borrow.Author.Tests.{lt-ltb, le-ltb, ne-eqb}
 use Rattle.counting.specs.Tests.{_or_, pick}
 use Rattle.counting.proofs.Joined.{no-way, or-eq, or-fails, pick-true}
 use Rattle.trail.specs.declared.Trail.{Trail}
-use Rattle.trail.specs.Trail.{topOf, trailWith, withMark, appended, dropped, markOr, lastMark, replaced, replacedAt, isPart, givesPartIn, partBefore, mayBeOne, uncut, nextMark, lastAdvanced, advanced}
+use Rattle.trail.specs.Trail.{topOf, trailWith, withMark, appended, dropped, markOr, lastMark, replaced, replacedAt, isPart, givesPartIn, oneAt, mayBeOne, uncut, nextMark, lastAdvanced, advanced}
 use Rattle.trail.proofs.Methods.{top-suc, at-top, at-none, dropped-at, uncut-more, uncut-done}
 use Rattle.model.specs.Walk.{givesPart, oneAllowed, afterZero, advance}
 use Rattle.model.specs.State.{stack, marksIn, arrayOf, trailOf}
@@ -95,14 +95,19 @@ unfolding givesPartIn givesPart stack
 gives-is marks zero = refl
 gives-is marks (suc d) = or-eq (part-tests (markOr 0 marks d)) (gives-is marks d)
 
--- some mark before the last is 0 or 1
-before-is : (x : ℕ) (τ : List ℕ) → length τ < 240 → partBefore (trailOf (x ∷ τ)) ≡ givesPart τ
-unfolding partBefore trailOf
-before-is x τ b =
-    ap (givesPartIn (arrayOf (x ∷ τ))) (top-suc (length τ))
-    ∙ gives-is (arrayOf (x ∷ τ)) (length τ)
+-- mark 1 is allowed at an index as behind the marks before it
+pub one-at-is : (first : Bool) (marks : List ℕ) (d : ℕ) → oneAt first marks d ≡ oneAllowed first (stack (markOr 0 marks) d)
+unfolding oneAt oneAllowed
+one-at-is first marks d = ap (λ (part : Bool). first or part) (gives-is marks d)
+
+-- mark 1 is allowed as the last mark
+pub may-is : (first : Bool) (x : ℕ) (τ : List ℕ) → length τ < 240 → mayBeOne first (trailOf (x ∷ τ)) ≡ oneAllowed first τ
+unfolding mayBeOne trailOf
+may-is first x τ b =
+    ap (oneAt first (arrayOf (x ∷ τ))) (top-suc (length τ))
+    ∙ one-at-is first (arrayOf (x ∷ τ)) (length τ)
     ∙ ap
-    givesPart
+    (oneAllowed first)
     (marks-before (arrayOf (x ∷ τ)) (length τ) (omega arith)
     ∙ stack-eq (λ i. getD (arrayOf (x ∷ τ)) i 0) (λ i. getD (arrayOf τ) i 0) (length τ) (array-before x τ)
     ∙ array-stack τ (omega arith))
@@ -118,11 +123,6 @@ next-cut b = refl
 
 -- mark 1 may come first or not
 module _ (first : Bool) where
-  -- mark 1 is allowed as the last mark
-  pub may-is : (x : ℕ) (τ : List ℕ) → length τ < 240 → mayBeOne first (trailOf (x ∷ τ)) ≡ oneAllowed first τ
-  unfolding mayBeOne oneAllowed
-  may-is x τ b = ap (λ (part : Bool). first or part) (before-is x τ b)
-
   -- the last mark, where it is not cut, becomes the next
   last-advanced-is :
       (x : ℕ) (τ : List ℕ) → length τ < 240 →
@@ -132,7 +132,7 @@ module _ (first : Bool) where
       ap
       (replaced (trailOf (x ∷ τ)))
       (ap (λ (y : ℕ). nextMark y (mayBeOne first (trailOf (x ∷ τ)))) (last-is x 0 τ b)
-      ∙ ap (nextMark x) (may-is x τ b))
+      ∙ ap (nextMark x) (may-is first x τ b))
       ∙ replaced-is x (nextMark x (oneAllowed first τ)) τ b
 
   -- a trail whose last mark is not cut has that advanced

@@ -10,11 +10,10 @@ use lib.Dec.{eqb, leb}
 use borrow.Author.Tests.{le-leb, lt-leb, eqb-true, eqb-false}
 use Rattle.counting.specs.Tests.{_and_, _or_}
 use Rattle.counting.proofs.Joined.{no-way, clash, by-test, and-intro, and-fails-left, and-fails-right}
-use Rattle.trail.specs.Trail.{markOr, isPart, givesPartIn}
+use Rattle.trail.specs.Trail.{markOr, isPart, givesPartIn, oneAt}
 use Rattle.trail.proofs.Methods.{gives-none, gives-more}
-use Rattle.model.specs.Walk.{oneAllowed}
 use Rattle.model.specs.State.{stack, areMarks, onesAllowed}
-use Rattle.marking.proofs.Trails.{gives-is}
+use Rattle.marking.proofs.Trails.{one-at-is}
 use Rattle.state.specs.Legal.{marksLegal, oneDenied, onesLegal}
 
 -- a test of the first marks that holds of one mark more just where a test of that mark passes too fails behind a mark that fails it
@@ -50,14 +49,14 @@ pub legal-fails : (marks : List ℕ) (i end : ℕ) → i < end → 2 < markOr 0 
 legal-fails marks i end b h =
     falls-behind (marksLegal marks) (λ j. leb (markOr 0 marks j) 2) (legal-step marks) i end b (lt-leb (markOr 0 marks i) 2 h)
 
-denied-passes : (part one : Bool) → not part and one ≡ false → not one or part ≡ true
+denied-passes : (allowed one : Bool) → not allowed and one ≡ false → not one or allowed ≡ true
 unfolding _and_ _or_
 denied-passes true true h = refl
 denied-passes true false h = refl
 denied-passes false true h = clash refl h
 denied-passes false false h = refl
 
-denied-fails : (part one : Bool) → not part and one ≡ true → not one or part ≡ false
+denied-fails : (allowed one : Bool) → not allowed and one ≡ true → not one or allowed ≡ false
 unfolding _and_ _or_
 denied-fails true one h = clash h refl
 denied-fails false true h = refl
@@ -76,25 +75,21 @@ or-moved false b c = refl
 
 -- mark 1 may come first or not
 module _ (first : Bool) where
-  -- mark 1 is allowed at an index
-  unfoldable pub oneAt : List ℕ → ℕ → Bool
-  oneAt marks i = first or givesPartIn marks i
-
   -- a mark is allowed
   allowed-at : List ℕ → ℕ → Bool
-  allowed-at marks i = not (eqb (markOr 0 marks i) 1) or oneAt marks i
+  allowed-at marks i = not (eqb (markOr 0 marks i) 1) or oneAt first marks i
 
   ones-step : (marks : List ℕ) (i : ℕ) → onesLegal first marks (suc i) ≡ allowed-at marks i and onesLegal first marks i
-  unfolding onesLegal onesAllowed stack oneAllowed allowed-at oneAt
+  unfolding onesLegal onesAllowed stack allowed-at
   ones-step marks i =
-      ap (λ (part : Bool). (not (eqb (markOr 0 marks i) 1) or (first or part)) and onesLegal first marks i) (sym (gives-is marks i))
+      ap (λ (may : Bool). (not (eqb (markOr 0 marks i) 1) or may) and onesLegal first marks i) (sym (one-at-is first marks i))
 
   pub ones-none : (marks : List ℕ) → onesLegal first marks 0 ≡ true
   unfolding onesLegal onesAllowed stack
   ones-none marks = refl
 
   pub ones-more :
-      (marks : List ℕ) (i : ℕ) (allowed : Bool) → onesLegal first marks i ≡ true → allowed ≡ oneAt marks i →
+      (marks : List ℕ) (i : ℕ) (allowed : Bool) → onesLegal first marks i ≡ true → allowed ≡ oneAt first marks i →
       oneDenied (markOr 0 marks i) allowed ≡ false → onesLegal first marks (i + 1) ≡ true
   unfolding oneDenied allowed-at
   ones-more marks i allowed h e d =
@@ -107,7 +102,7 @@ module _ (first : Bool) where
       (ap (λ (p : Bool). not (eqb (markOr 0 marks i) 1) or p) (sym e) ∙ denied-passes allowed (eqb (markOr 0 marks i) 1) d)
 
   pub ones-fail :
-      (marks : List ℕ) (i end : ℕ) (allowed : Bool) → i < end → allowed ≡ oneAt marks i →
+      (marks : List ℕ) (i end : ℕ) (allowed : Bool) → i < end → allowed ≡ oneAt first marks i →
       oneDenied (markOr 0 marks i) allowed ≡ true → onesLegal first marks end ≡ false
   unfolding oneDenied allowed-at
   ones-fail marks i end allowed b e d =
@@ -121,13 +116,13 @@ module _ (first : Bool) where
       (ap (λ (p : Bool). not (eqb (markOr 0 marks i) 1) or p) (sym e) ∙ denied-fails allowed (eqb (markOr 0 marks i) 1) d)
 
   -- where mark 1 is allowed at the first index, and behind one mark more
-  pub one-at-first : (marks : List ℕ) → first ≡ oneAt marks 0
+  pub one-at-first : (marks : List ℕ) → first ≡ oneAt first marks 0
   unfolding oneAt
   one-at-first marks = sym (ap (λ (part : Bool). first or part) (gives-none marks) ∙ or-none first)
 
   pub one-at-more :
-      (marks : List ℕ) (i : ℕ) (allowed : Bool) → allowed ≡ oneAt marks i →
-      isPart (markOr 0 marks i) or allowed ≡ oneAt marks (i + 1)
+      (marks : List ℕ) (i : ℕ) (allowed : Bool) → allowed ≡ oneAt first marks i →
+      isPart (markOr 0 marks i) or allowed ≡ oneAt first marks (i + 1)
   unfolding oneAt
   one-at-more marks i allowed e =
       ap (λ (x : Bool). isPart (markOr 0 marks i) or x) e

@@ -65,9 +65,13 @@ givesPartIn marks (suc i) = isPart (markOr 0 marks i) or givesPartIn marks i
 unfoldable pub partBefore : Trail → Bool
 partBefore t = givesPartIn (t .marks) (topOf (t .len))
 
--- mark 1 is allowed as the last mark: it may come first, or some mark before the last is 0 or 1
+-- mark 1 is allowed at this index: it may come first, or some mark before it is 0 or 1
+unfoldable pub oneAt : Bool → List ℕ → ℕ → Bool
+oneAt first marks i = first or givesPartIn marks i
+
+-- mark 1 is allowed as the last mark
 unfoldable pub mayBeOne : Bool → Trail → Bool
-mayBeOne first t = first or partBefore t
+mayBeOne first t = oneAt first (t .marks) (topOf (t .len))
 
 -- without the marks cut at its end, of so many
 unfoldable pub uncut : ℕ → Trail → Trail

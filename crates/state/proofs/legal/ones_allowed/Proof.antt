@@ -6,9 +6,9 @@ use mathlib.Core.Path.{_≡_, sym, _∙_, ap}
 use Prim.Native.Nat.{ℕ, _≤_, _-_}
 use native.Mathlib.Omega.{arith}
 use Rattle.counting.specs.Tests.{_or_}
-use Rattle.trail.specs.Trail.{isPart}
+use Rattle.trail.specs.Trail.{isPart, oneAt}
 use Rattle.state.specs.Legal.{onesLegal, oneDenied}
-use Rattle.state.proofs.Legals.{oneAt, ones-none, ones-more, ones-fail, one-at-first, one-at-more}
+use Rattle.state.proofs.Legals.{ones-none, ones-more, ones-fail, one-at-first, one-at-more}
 use Rattle.state.proofs.legal.ones_allowed.Statement.{statement}
 use Rattle.state.proofs.legal.ones_allowed.Tie as tie
 
