@@ -1,4 +1,5 @@
-// Runs a search to its end, a million tries a call, and says how it ended.
+// Runs a search to its end, a million tries a call, and says how it ended and how
+// many looks its matchings took.
 // Usage: finish PERCENT [plain | incremental], with a pattern text on
 // standard input.
 #include "baseline/text.hpp"
@@ -36,7 +37,7 @@ int main(int count, char** words) {
         return 1;
     }
     CommentFigures figures{shown.volume, record.caps, capped.rest, record.tries, shown.floor, 1};
-    std::printf("volume %llu %s complete, %.2f processor seconds\n",
+    std::printf("volume %llu %s complete, looks %llu, %.2f processor seconds\n",
                 (unsigned long long)shown.volume, written_figures(figures).c_str(),
-                double(std::clock()) / CLOCKS_PER_SEC);
+                (unsigned long long)record.looks, double(std::clock()) / CLOCKS_PER_SEC);
 }

@@ -1,6 +1,9 @@
-// Random patterns from a fixed seed, the same on every machine.
+// Random patterns and caps from a fixed seed, the same on every machine.
 #pragma once
 
+#include "baseline/walk.hpp"
+
+#include <algorithm>
 #include <cstdint>
 #include <random>
 #include <vector>
@@ -30,4 +33,24 @@ inline std::vector<uint8_t> random_list(Random& random, uint64_t rows, uint64_t 
                 --wanted;
             }
     return list;
+}
+
+// Caps that meet no refusal; most are barely enough.
+inline baseline::Caps random_equal_caps(Random& random, uint64_t nonzeros) {
+    uint64_t half = (nonzeros + 1) / 2;
+    return baseline::equal_caps(half + random.below(random.chance(70) ? 3 : nonzeros - half + 2));
+}
+
+inline baseline::Caps random_unequal_caps(Random& random, uint64_t nonzeros) {
+    uint64_t one = random.below(nonzeros + 1);
+    uint64_t more = random.below(random.chance(70) ? 3 : nonzeros + 2);
+    uint64_t other = std::min(nonzeros - one + more, baseline::most_cap);
+    if (one == other) other = other < baseline::most_cap ? other + 1 : other - 1;
+    return random.chance(50) ? baseline::Caps{one, other} : baseline::Caps{other, one};
+}
+
+// Half of them equal.
+inline baseline::Caps random_accepted_caps(Random& random, uint64_t nonzeros) {
+    return random.chance(50) ? random_equal_caps(random, nonzeros)
+                             : random_unequal_caps(random, nonzeros);
 }

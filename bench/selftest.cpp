@@ -1,7 +1,7 @@
 // Checks both walks and the texts against each other, against vectors from
 // another model, against the samples of documents 01 and 02 and, on small
-// patterns, against all splits, with equal and unequal caps; and symmetric and
-// valued texts against plain ones.
+// patterns, against all splits, with equal and unequal caps; looks against counts
+// by hand and their bounds; and symmetric and valued texts against plain ones.
 // Usage: selftest DATA-DIRECTORY. The last line is "N checked, 0 differ".
 #include "baseline/text.hpp"
 #include "random_texts.hpp"
@@ -47,16 +47,23 @@ struct State {
     std::vector<uint8_t> parts;
 };
 
+bool looks_in_range(const Record& record) {
+    using Wide = unsigned __int128;
+    return record.looks <= Wide(record.tries) * record.rows * record.nonzeros;
+}
+
 void show_state(const Walk& walk, const Sample& sample, State& state) {
     state.parts.assign(sample.nonzeros() + 3, 77);
     Answer answer = show(walk, sample.list(), state.record, state.parts.data(),
                          state.parts.size(), state.shown);
     check(!answer.refused(), "a showing is accepted");
+    check(looks_in_range(state.record), "looks are at most tries * m * N");
 }
 
 State opened(const Sample& sample) {
     State state;
-    check(!open(sample.list(), sample.caps, state.record).refused(), "an opening is accepted");
+    bool accepted = !open(sample.list(), sample.caps, state.record).refused();
+    check(accepted && state.record.looks == 0, "an opening is accepted");
     return state;
 }
 
@@ -151,10 +158,12 @@ std::string letters_of(const Marking& marking) {
     return letters.empty() ? "." : letters;
 }
 
-std::string described(const State& state) {
+std::string described(const State& state, bool with_looks = true) {
     const Record& record = state.record;
     std::ostringstream text;
-    text << "tries " << record.tries << " best " << record.best_count << " bestmarking "
+    text << "tries " << record.tries;
+    if (with_looks) text << " looks " << record.looks;
+    text << " best " << record.best_count << " bestmarking "
          << (record.has_best ? letters_of(record.best) : "-")
          << (record.complete ? " complete" : " open") << " trail " << letters_of(record.trail)
          << " floor " << state.shown.floor;
@@ -178,12 +187,14 @@ void check_walks(const std::string& name) {
         }
         uint64_t tries;
         std::istringstream(line) >> words >> tries;
+        bool with_looks = line.find(" looks ") != std::string::npos;
         for (int way = 0; way < 2; ++way) {
             State& state = states[way];
             run(*walks[way], sample.list(), state.record, tries - state.record.tries);
             show_state(*walks[way], sample, state);
-            check("  " + described(state) == line, std::string(walk_names[way]) + ": " + line +
-                                                       "\n  found:   " + described(state));
+            std::string found = described(state, with_looks);
+            check("  " + found == line, std::string(walk_names[way]) + ": " + line +
+                                            "\n  found:   " + found);
         }
     }
     check(lines > 100, name + " is there");
@@ -200,11 +211,13 @@ Sample sample_of(uint64_t rows, uint64_t columns, uint64_t cap, std::vector<uint
     return sample_of(rows, columns, equal_caps(cap), std::move(bytes));
 }
 
-void check_end(const Sample& sample, uint64_t volume, uint64_t tries, const char* what) {
+void check_end(const Sample& sample, uint64_t volume, uint64_t tries, uint64_t looks,
+               const char* what) {
     for (const Walk* walk : walks) {
         State state = after(*walk, sample, most_budget);
         check(state.record.complete && state.shown.volume == volume &&
-                  state.shown.floor == volume && state.record.tries == tries, what);
+                  state.shown.floor == volume && state.record.tries == tries &&
+                  state.record.looks == looks, what);
     }
 }
 
@@ -288,10 +301,10 @@ void check_all_caps() {
 }
 
 void check_samples() {
-    check_end(sample_of(1, 1, 1, {0, 0}), 0, 5, "one nonzero, cap 1");
+    check_end(sample_of(1, 1, 1, {0, 0}), 0, 5, 0, "one nonzero, cap 1");
     check_opening(sample_of(1, 1, 0, {0, 0}), no_split, 0, "one nonzero, cap 0");
     Sample diagonal = sample_of(2, 2, 1, {0, 0, 1, 1});
-    check_end(diagonal, 0, 11, "2 by 2 diagonal");
+    check_end(diagonal, 0, 11, 0, "2 by 2 diagonal");
     Sample full = sample_of(2, 2, 2, {0, 0, 0, 1, 1, 0, 1, 1});
     for (const Walk* walk : walks) {
         State state = after(*walk, diagonal, 3);
@@ -303,7 +316,7 @@ void check_samples() {
     check_least(row, 1, "full 1 by 3");
     row.caps = {1, 1};
     check_opening(row, no_split, 0, "full 1 by 3, cap 1");
-    check_end(sample_of(2, 3, 0, {}), 0, 0, "2 by 3 without nonzeros");
+    check_end(sample_of(2, 3, 0, {}), 0, 0, 0, "2 by 3 without nonzeros");
     check_least(sample_of(3, 4, 7, {0, 2, 0, 3, 1, 1, 1, 2, 1, 3, 2, 0, 2, 2, 2, 3}), 1,
                 "counting a nonzero twice in s");
     check_least(sample_of(4, 4, 5, {0, 2, 1, 2, 1, 3, 2, 1, 2, 2, 2, 3, 3, 0, 3, 1, 3, 3}), 2,
@@ -321,14 +334,15 @@ void check_sample_bound() {
     marks[1] = mark_1;
     for (const Walk* walk : walks) {
         Evaluation found = walk->evaluate(take_apart(sample.list()), sample.caps, marks);
-        check(found.valid && found.l3 == 0 && found.l4 == 1, "the sample of L3 and L4");
+        check(found.valid && found.l3 == 0 && found.l4 == 1 && found.looks == 1,
+              "the sample of L3 and L4");
     }
 }
 
-// The end of a search and the split that it shows.
+// The end of a search that meets no conflict, and the split that it shows.
 void check_shown(const Sample& sample, uint64_t volume, uint64_t tries,
                  std::vector<uint8_t> parts, const char* what) {
-    check_end(sample, volume, tries, what);
+    check_end(sample, volume, tries, 0, what);
     for (const Walk* walk : walks) {
         State state = after(*walk, sample, tries);
         state.parts.resize(sample.nonzeros());
@@ -354,7 +368,81 @@ void check_unequal_samples() {
     check_shown(apart, 1, 16, {0, 1, 1, 0}, "three in a row and one apart, caps 2 and 2");
     apart.caps = {1, 3};
     check_shown(apart, 0, 18, {1, 1, 1, 0}, "three in a row and one apart, caps 1 and 3");
-    check_end(sample_of(2, 3, {0, 7}, {}), 0, 0, "2 by 3 without nonzeros, caps 0 and 7");
+    check_end(sample_of(2, 3, {0, 7}, {}), 0, 0, 0, "2 by 3 without nonzeros, caps 0 and 7");
+}
+
+// ---- looks counted by hand
+
+// By row, the columns of its conflicts.
+using Conflicts = std::vector<std::vector<uint8_t>>;
+
+// A pattern in which all rows but the last have these nonzeros and one in the
+// last column, and the last row has one in each column but the last.
+Sample sample_with(const Conflicts& conflicts, uint8_t columns) {
+    uint8_t rows = uint8_t(conflicts.size());
+    Sample sample = sample_of(rows + 1u, columns + 1u, 2000, {});
+    auto add = [&](uint8_t row, uint8_t column) {
+        sample.bytes.push_back(row);
+        sample.bytes.push_back(column);
+    };
+    for (uint8_t row = 0; row < rows; ++row) {
+        for (uint8_t column : conflicts[row]) add(row, column);
+        add(row, columns);
+    }
+    for (uint8_t column = 0; column < columns; ++column) add(rows, column);
+    return sample;
+}
+
+// The last column marked with one part and the last row with the other: then the
+// other rows lean to the one and the other columns to the other.
+void check_looks(const Conflicts& conflicts, uint8_t columns, int l4, uint64_t looks,
+                 const char* what) {
+    Sample sample = sample_with(conflicts, columns);
+    Pattern pattern = take_apart(sample.list());
+    for (const Walk* walk : walks)
+        for (Mark part : {mark_0, mark_1}) {
+            LineMarks marks;
+            marks.fill(unmarked);
+            marks[pattern.lines() - 1] = part;
+            marks[pattern.rows - 1] = Mark(1 - part);
+            Evaluation found = walk->evaluate(pattern, sample.caps, marks);
+            check(found.valid && found.l4 == l4 && found.looks == looks, what);
+        }
+}
+
+void check_looks_samples() {
+    check_looks({{}}, 1, 0, 0, "no conflict");
+    check_looks({{0}}, 1, 1, 1, "one conflict");
+    check_looks({{0, 1, 2}}, 3, 1, 1, "a start ends at an unmatched column");
+    check_looks({{2}, {}, {1}, {0}}, 3, 3, 3, "each start ends at once");
+    // Row 1 comes by column 0 to row 0, which meets column 0 again, then column 1.
+    check_looks({{0, 1}, {0}}, 2, 2, 1 + 3, "a path of length three");
+    // Row 2 comes by column 0 to row 0 and by column 1 to row 1.
+    check_looks({{0, 1}, {1, 2}, {0}}, 3, 3, 1 + 1 + 5, "a path of length five");
+    // Row 1 comes to row 0, which leads nowhere, and goes on to column 1.
+    check_looks({{0}, {0, 1}}, 2, 2, 1 + 3, "back from a dead end");
+    // Row 2 meets both columns, and so do rows 1 and 0, to which it comes.
+    check_looks({{0, 1}, {0, 1}, {0, 1}}, 2, 2, 1 + 3 + 6, "columns met again and again");
+    check_looks({{0}, {0}, {0}}, 1, 1, 1 + 2 + 2, "a column left to its row");
+    // From the last row up it would be 6.
+    check_looks({{0}, {0, 1}, {1}}, 2, 2, 1 + 3 + 4, "rows ascending");
+    // With columns descending it would be 1 + 1 + 1.
+    check_looks({{0, 2}, {0, 1}, {0}}, 3, 3, 1 + 3 + 3, "columns ascending");
+}
+
+// Rows 0 and 2 lean to 0 and columns 0 and 2 to 1; rows 1 and 3 lean to 1 and
+// columns 1 and 3 to 0. Nonzero 0,1 has two lines that lean to 0.
+void check_looks_both_ways() {
+    Sample sample = sample_of(6, 6, 2000, {0, 0, 0, 1, 0, 2, 0, 4, 1, 1, 1, 3, 1, 5, 2, 0,
+                                           2, 4, 3, 1, 3, 3, 3, 5, 4, 0, 4, 2, 5, 1, 5, 3});
+    LineMarks marks;
+    marks.fill(unmarked);
+    marks[4] = marks[6 + 5] = mark_1;
+    marks[5] = marks[6 + 4] = mark_0;
+    for (const Walk* walk : walks) {
+        Evaluation found = walk->evaluate(take_apart(sample.list()), sample.caps, marks);
+        check(found.valid && found.l4 == 4 && found.looks == 4 + 4, "conflicts of both kinds");
+    }
 }
 
 // ---- openings, runs and showings that are refused
@@ -436,7 +524,11 @@ void check_states() {
     refused(3, [](Record& r) { r.nonzeros = 1; }, "other nonzeros");
     refused(3, [](Record& r) { r.caps = {0, 0}; }, "caps too low");
     refused(3, [](Record& r) { r.caps = {2001, 2001}; }, "caps too high");
-    refused(3, [](Record& r) { r.tries = most_tries + 1; }, "too many tries");
+    refused(3, [](Record& r) { r.tries = 10000000000001; }, "too many tries");
+    refused(3, [](Record& r) { r.tries = UINT64_MAX; }, "far too many tries");
+    refused(3, [](Record& r) { r.looks = 3 * 2 * 2 + 1; }, "looks over tries * m * N");
+    refused(0, [](Record& r) { r.looks = 1; }, "looks without a try");
+    refused(11, [](Record& r) { r.looks = UINT64_MAX; }, "far too many looks");
     refused(3, [](Record& r) { r.trail.clear(); }, "no trail, not complete");
     refused(3, [](Record& r) { r.trail = {0, 0, 0, 0, 0}; }, "trail too long");
     refused(3, [](Record& r) { r.trail = {0, 3}; }, "no legal mark");
@@ -508,62 +600,98 @@ void check_budgets() {
         check(answer(UINT64_MAX) == budget_range, "the greatest budget");
         check(answer(1000000) == 0 && state.record.tries == 5, "budget 1,000,000");
         check(answer(1000001) == budget_range, "budget on a complete search");
-        state.record.tries = most_tries - 3;
+        state.record.tries = 9999999999997;
         check(answer(4) == budget_range && answer(3) == 0, "tries + budget");
+        state.record.tries = 10000000000000;
+        check(answer(1) == budget_range && answer(0) == 0, "no budget left");
         Shown shown;
         Answer short_parts = show(*walk, sample.list(), state.record, nullptr, 0, shown);
         check(short_parts.number == short_buffer && short_parts.place == 0, "short parts");
     }
 }
 
+// A search with this many tries, the most looks that these allow, and then one more.
+void check_most_looks(const Walk& walk, const Sample& sample, uint64_t tries) {
+    State state = opened(sample);
+    state.record.tries = tries;
+    state.record.looks = tries * sample.rows * sample.nonzeros();
+    Record before = state.record;
+    Answer next = run(walk, sample.list(), state.record, 1);
+    bool spent = tries == 10000000000000;
+    check(next.number == (spent ? uint64_t(budget_range) : 0), "the most looks, one try");
+    check(spent ? state.record == before : looks_in_range(state.record), "looks after it");
+    check(!run(walk, sample.list(), state.record, 0).refused(), "the most looks, no try");
+    show_state(walk, sample, state);
+    check_state(sample, 0, [&](Record& r) { r = before; ++r.looks; }, "one look more");
+}
+
+void check_looks_states() {
+    Sample full = sample_of(2, 2, 2, {0, 0, 0, 1, 1, 0, 1, 1});
+    Sample wide = sample_of(1, 3, {1, 2}, {0, 0, 0, 1, 0, 2});
+    Sample largest = sample_of(120, 120, 1000, {});
+    for (int at = 0; at < 2000; ++at) {
+        largest.bytes.push_back(uint8_t(at / 120));
+        largest.bytes.push_back(uint8_t(at % 120));
+    }
+    for (const Walk* walk : walks)
+        for (uint64_t tries : {uint64_t(0), uint64_t(1), uint64_t(77), uint64_t(9999999999999),
+                               uint64_t(10000000000000)}) {
+            check_most_looks(*walk, full, tries);
+            check_most_looks(*walk, wide, tries);
+            check_most_looks(*walk, largest, tries);
+        }
+    Sample empty = sample_of(2, 3, 0, {});
+    check_state(empty, 0, [](Record& r) { r.tries = 5; r.looks = 1; }, "looks without nonzeros");
+}
+
 // ---- random patterns
 
-// Caps that meet no refusal; most are barely enough.
-Caps random_equal(Random& random, uint64_t nonzeros) {
-    uint64_t half = (nonzeros + 1) / 2;
-    return equal_caps(half + random.below(random.chance(70) ? 3 : nonzeros - half + 2));
-}
-
-Caps random_unequal(Random& random, uint64_t nonzeros) {
-    uint64_t one = random.below(nonzeros + 1);
-    uint64_t more = random.below(random.chance(70) ? 3 : nonzeros + 2);
-    uint64_t other = std::min(nonzeros - one + more, most_cap);
-    if (one == other) other = other < most_cap ? other + 1 : other - 1;
-    return random.chance(50) ? Caps{one, other} : Caps{other, one};
-}
-
-Sample random_sample(Random& random, uint64_t side, uint64_t most) {
-    Sample sample;
-    sample.rows = random.between(1, side);
-    sample.columns = random.between(1, side);
-    uint64_t nonzeros = random.below(std::min(sample.rows * sample.columns, most) + 1);
-    sample.bytes = random_list(random, sample.rows, sample.columns, nonzeros);
-    sample.caps = random.chance(50) ? random_equal(random, nonzeros)
-                                    : random_unequal(random, nonzeros);
+Sample random_cells(Random& random, uint64_t rows, uint64_t columns, uint64_t nonzeros) {
+    Sample sample = sample_of(rows, columns, 0, random_list(random, rows, columns, nonzeros));
+    sample.caps = random_accepted_caps(random, nonzeros);
     return sample;
 }
 
-// Both walks, the same budgets in pieces; equal after each piece.
+Sample random_sample(Random& random, uint64_t side, uint64_t most) {
+    uint64_t rows = random.between(1, side), columns = random.between(1, side);
+    uint64_t nonzeros = random.below(std::min(rows * columns, most) + 1);
+    return random_cells(random, rows, columns, nonzeros);
+}
+
+// About twice to five times as many nonzeros as lines on a side: there conflicts
+// are frequent.
+Sample sparse_sample(Random& random, uint64_t side) {
+    uint64_t rows = random.between(side / 2, side), columns = random.between(side / 2, side);
+    uint64_t most = std::min(rows * columns, 5 * side);
+    uint64_t nonzeros = random.between(std::min(most, 2 * side), most);
+    return random_cells(random, rows, columns, nonzeros);
+}
+
+// Both walks, the same budgets in pieces: equal after each piece, and in the end
+// as after one run of all of them.
 void check_in_pieces(const Sample& sample, Random& random, State start, int pieces) {
     State states[2] = {start, start};
-    uint64_t largest = uint64_t(1) << random.between(1, 9);
+    uint64_t largest = uint64_t(1) << random.between(1, 9), spent = 0;
     for (int piece = 0; piece < pieces; ++piece) {
         uint64_t budget = random.below(largest);
+        spent += budget;
         for (int way = 0; way < 2; ++way) {
             run(*walks[way], sample.list(), states[way].record, budget);
             show_state(*walks[way], sample, states[way]);
         }
         check(same_state(states[0], states[1]),
               "in pieces: " + described(states[0]) + "\n     and: " + described(states[1]));
-        if (states[0].record.complete && random.chance(80)) return;
+        if (states[0].record.complete && random.chance(80)) break;
     }
+    run(plain(), sample.list(), start.record, spent);
+    check(start.record == states[0].record, "in one run: " + described(states[0]));
 }
 
 void check_random_walks(int patterns) {
     Random random(1);
     for (int at = 0; at < patterns; ++at) {
         uint64_t side = at % 20 == 0 ? 40 : at % 5 == 0 ? 14 : 7;
-        Sample sample = random_sample(random, side, 400);
+        Sample sample = at % 3 == 0 ? sparse_sample(random, side) : random_sample(random, side, 400);
         check_in_pieces(sample, random, opened(sample), 6);
     }
 }
@@ -594,27 +722,105 @@ void check_crafted_walks(int patterns) {
     check(accepted > patterns / 20, "enough crafted states are accepted");
 }
 
+LineMarks random_marks(Random& random, const Pattern& pattern) {
+    uint64_t marked = random.below(60);
+    LineMarks marks;
+    marks.fill(unmarked);
+    for (int line = 0; line < pattern.lines(); ++line)
+        if (random.chance(marked)) marks[line] = Mark(random.below(3));
+    // Most markings of many lines are not valid: take marks off that clash.
+    if (random.chance(70))
+        for (int nonzero = 0; nonzero < pattern.nonzeros; ++nonzero)
+            if (marks[pattern.row[nonzero]] + marks[pattern.column[nonzero]] == 1)
+                marks[pattern.column[nonzero]] = unmarked;
+    return marks;
+}
+
+// By line, bit p: unmarked, with nonzeros taken by part p.
+std::vector<int> takings(const Pattern& pattern, const LineMarks& marks) {
+    std::vector<int> taken(pattern.lines(), 0);
+    for (int nonzero = 0; nonzero < pattern.nonzeros; ++nonzero) {
+        int row = pattern.row[nonzero], column = pattern.column[nonzero];
+        for (auto [line, other] : {std::pair{row, column}, {column, row}})
+            if (marks[line] == unmarked && marks[other] <= mark_1) taken[line] |= 1 << marks[other];
+    }
+    return taken;
+}
+
+// The columns of each row's conflicts in a valid marking.
+Conflicts conflicts_of(const Pattern& pattern, const LineMarks& marks) {
+    std::vector<int> taken = takings(pattern, marks);
+    Conflicts conflicts(pattern.rows);
+    for (int nonzero = 0; nonzero < pattern.nonzeros; ++nonzero) {
+        int row = pattern.row[nonzero], column = pattern.column[nonzero];
+        bool conflict = (taken[row] == 1 && taken[column] == 2) ||
+                        (taken[row] == 2 && taken[column] == 1);
+        if (conflict) conflicts[row].push_back(uint8_t(column - pattern.rows));
+    }
+    return conflicts;
+}
+
+// Equal looks: at least one for each of the R conflict rows, and at most R * E.
+void check_looks_of(const Pattern& pattern, const LineMarks& marks, const Evaluation& a,
+                    const Evaluation& b) {
+    uint64_t rows = 0, all = 0;
+    for (const std::vector<uint8_t>& columns : conflicts_of(pattern, marks)) {
+        rows += !columns.empty();
+        all += columns.size();
+    }
+    check(a.looks == b.looks && rows <= a.looks && a.looks <= rows * all,
+          "looks: " + std::to_string(a.looks) + " and " + std::to_string(b.looks) + " with " +
+              std::to_string(rows) + " rows and " + std::to_string(all) + " conflicts");
+}
+
 // Markings of any set of lines.
 void check_random_bounds(int patterns) {
     Random random(3);
     for (int at = 0; at < patterns; ++at) {
         Sample sample = random_sample(random, at % 3 == 0 ? 120 : 12, 2000);
         Pattern pattern = take_apart(sample.list());
-        uint64_t marked = random.below(60);
-        LineMarks marks;
-        marks.fill(unmarked);
-        for (int line = 0; line < pattern.lines(); ++line)
-            if (random.chance(marked)) marks[line] = Mark(random.below(3));
-        // Most markings of many lines are not valid: take marks off that clash.
-        if (random.chance(70))
-            for (int nonzero = 0; nonzero < pattern.nonzeros; ++nonzero)
-                if (marks[pattern.row[nonzero]] + marks[pattern.column[nonzero]] == 1)
-                    marks[pattern.column[nonzero]] = unmarked;
+        LineMarks marks = random_marks(random, pattern);
         Evaluation a = plain().evaluate(pattern, sample.caps, marks);
         Evaluation b = incremental().evaluate(pattern, sample.caps, marks);
         check(a.valid == b.valid && (!a.valid || described(a) == described(b)),
               "bounds: " + described(a) + " and " + described(b));
+        if (a.valid) check_looks_of(pattern, marks, a, b);
     }
+}
+
+// What a try adds to a record's looks: those of a valid trail, standing or not.
+uint64_t looks_of_try(const Pattern& pattern, const Record& record) {
+    LineMarks marks;
+    marks.fill(unmarked);
+    for (size_t at = 0; at < record.trail.size(); ++at)
+        marks[pattern.order[at]] = record.trail[at];
+    Evaluation found = plain().evaluate(pattern, record.caps, marks);
+    return found.valid ? found.looks : 0;
+}
+
+// One try at a time; says how many tries had looks.
+int check_growth(const Sample& sample, int tries) {
+    Pattern pattern = take_apart(sample.list());
+    State states[2] = {opened(sample), opened(sample)};
+    int with_looks = 0;
+    for (; tries > 0 && !states[0].record.complete; --tries) {
+        uint64_t before = states[0].record.looks;
+        uint64_t more = looks_of_try(pattern, states[0].record);
+        with_looks += more > 0;
+        for (int way = 0; way < 2; ++way) {
+            run(*walks[way], sample.list(), states[way].record, 1);
+            check(states[way].record.looks == before + more, "looks that a try adds");
+        }
+    }
+    return with_looks;
+}
+
+void check_random_growth(int patterns) {
+    Random random(8);
+    int with_looks = 0;
+    for (int at = 0; at < patterns; ++at)
+        with_looks += check_growth(sparse_sample(random, random.between(6, 30)), 300);
+    check(with_looks > 5 * patterns, "enough tries have looks");
 }
 
 // ---- all splits of small patterns
@@ -673,6 +879,7 @@ bool begins_with_1(const Marking& trail) {
 // volume. A trail whose first mark other than cut is 1 comes exactly if the
 // caps are unequal. Gives the volume at the end.
 uint64_t check_each_try(const Sample& sample, uint64_t least) {
+    Pattern pattern = take_apart(sample.list());
     State states[2] = {opened(sample), opened(sample)};
     bool one_first = false, accepted = true;
     while (accepted) {
@@ -681,8 +888,10 @@ uint64_t check_each_try(const Sample& sample, uint64_t least) {
         check(states[0].shown.floor <= least, "each try: the floor");
         one_first = one_first || begins_with_1(states[0].record.trail);
         if (states[0].record.complete) break;
+        uint64_t looks = states[0].record.looks + looks_of_try(pattern, states[0].record);
         for (int way = 0; way < 2; ++way)
             accepted = !run(*walks[way], sample.list(), states[way].record, 1).refused() && accepted;
+        check(states[0].record.looks == looks, "each try: looks");
     }
     check(accepted, "each try: accepted");
     check(one_first == (sample.unequal() && sample.nonzeros() > 0), "mark 1 before any 0");
@@ -761,17 +970,17 @@ void check_matrix(const std::string& name, uint64_t nonzeros, uint64_t cap, uint
 void check_matrices(const std::string& data) {
     Sample karate = read_matrix(data + "/karate.mtx");
     check(karate.caps == equal_caps(80), "karate: cap 80");
-    check_end(karate, 8, 24934, "karate: volume 8, complete after 24,934 tries");
+    check_end(karate, 8, 24934, 11273, "karate: volume 8, complete after 24,934 tries");
     karate.caps = {52, 104};
-    check_end(karate, 7, 10587, "karate: volume 7 with a third of the nonzeros in part 0");
+    check_end(karate, 7, 10587, 9071, "karate: volume 7 with a third of the nonzeros in part 0");
     karate.caps = {104, 52};
-    check_end(karate, 7, 211260, "karate: volume 7 with a third of the nonzeros in part 1");
+    check_end(karate, 7, 211260, 6325, "karate: volume 7 with a third of the nonzeros in part 1");
     Sample divorce = read_matrix(data + "/divorce.mtx");
     check(divorce.nonzeros() == 225 && divorce.caps == equal_caps(116), "divorce: cap 116");
-    check_end(divorce, 8, 3933, "divorce: volume 8, complete after 3,933 tries");
+    check_end(divorce, 8, 3933, 0, "divorce: volume 8, complete after 3,933 tries");
     Sample cage5 = read_matrix(data + "/cage5.mtx");
     check(cage5.nonzeros() == 233 && cage5.caps == equal_caps(120), "cage5: cap 120");
-    check_end(cage5, 14, 744337, "cage5: volume 14, complete after 744,337 tries");
+    check_end(cage5, 14, 744337, 648674, "cage5: volume 14, complete after 744,337 tries");
     check_matrix(data + "/karate.mtx", 156, 80, 10000);
     check_matrix(data + "/chesapeake.mtx", 340, 175, 100000);
     check_matrix(data + "/steam3.mtx", 928, 477, 50000);
@@ -1351,12 +1560,15 @@ void check_calls() {
     check_samples();
     check_sample_bound();
     check_unequal_samples();
+    check_looks_samples();
+    check_looks_both_ways();
     check_refused_openings();
     check_refused_caps();
     check_states();
     check_unequal_states();
     check_accepted_states();
     check_budgets();
+    check_looks_states();
     check_c_function(plain_bipartition);
     check_c_function(incremental_bipartition);
 }
@@ -1373,6 +1585,7 @@ int main(int arguments, char** words) {
         check_bounds(data + "/bounds" + caps + ".txt");
         check_walks(data + "/walks" + caps + ".txt");
     }
+    check_walks(data + "/walks_looks.txt");
     part_done("vectors");
     check_percents();
     check_all_caps();
@@ -1386,6 +1599,8 @@ int main(int arguments, char** words) {
     part_done("random walks in pieces");
     check_random_bounds(20000);
     part_done("random markings");
+    check_random_growth(2000);
+    part_done("looks, one try at a time");
     check_brute_force(4000);
     part_done("brute force");
     check_all_patterns();

@@ -1,7 +1,7 @@
 // The incremental walk: everything that a try needs is kept while the trail
-// grows and shrinks. Validity, L1 and L2 of a marking with one more mark are
-// known before that mark is placed; L3 comes from kept counts; the matching
-// of L4 is kept from try to try and looked at only where it can decide.
+// grows and shrinks. Validity, L1, L2 and the leaning lines of a marking with one
+// more mark are known before that mark is placed; over these, as sets, the
+// matching of L4 is searched and its looks are counted; L3 comes from kept counts.
 #include "walk.hpp"
 
 #include <algorithm>
@@ -35,7 +35,14 @@ struct Set {
 };
 
 Set both(Set a, Set b) { return {a.low & b.low, a.high & b.high}; }
+Set either(Set a, Set b) { return {a.low | b.low, a.high | b.high}; }
 Set without(Set a, Set b) { return {a.low & ~b.low, a.high & ~b.high}; }
+
+// The numbers of a set above one of them.
+Set above(Set set, int number) {
+    uint64_t mask = ~uint64_t(1) << (number & 63);
+    return number < 64 ? Set{set.low & mask, set.high} : Set{0, set.high & mask};
+}
 
 template <class Visit>
 void for_each(Set set, Visit visit) {
@@ -51,11 +58,106 @@ constexpr int stride = 128;
 int side_of(int line) { return line / stride; }
 int place_of(int line) { return line % stride; }
 
+struct Line {
+    Set crossing;               // the lines of the other side it has nonzeros in
+    uint8_t size = 0;
+    Mark mark = unmarked;
+    uint8_t taken[2] = {0, 0};  // by part; stands still while the line is marked
+};
+
+using Lines = std::array<Line, 2 * stride>;
+using Leaning = std::array<std::array<Set, 2>, 2>;   // by side and part
+
+struct Matched {
+    int size = 0;
+    uint64_t looks = 0;
+};
+
+// The search for the matching of L4, to the letter of document 02.
+class Matching {
+public:
+    explicit Matching(const Lines& lines) : lines(lines) {}
+
+    // Rows leaning to one part share no conflict column with rows leaning to the
+    // other, so the starts of either go their own way.
+    Matched search(const Leaning& leaning) {
+        found = {};
+        for (int part = 0; part < 2; ++part) search(leaning[0][part], leaning[1][1 - part]);
+        return found;
+    }
+
+private:
+    // A row that a start has come to: the column that it entered last, and its
+    // conflicts not met yet.
+    struct Visit {
+        LineNumber row, column;
+        Set left;
+    };
+
+    Set conflicts_of(int row) const { return both(lines[row].crossing, conflict_columns); }
+
+    // A start from each of these rows that has conflicts with these columns.
+    void search(Set rows, Set columns) {
+        if (columns.empty()) return;
+        conflict_columns = columns;
+        matched = {};
+        for_each(rows, [&](int row) {
+            if (!conflicts_of(row).empty()) found.size += start(row);
+        });
+    }
+
+    // Depth first until an unmatched column; says if it came to one.
+    bool start(int row) {
+        Set fresh = conflict_columns;
+        int depth = 0;
+        path[0] = {LineNumber(row), 0, conflicts_of(row)};
+        while (depth >= 0) {
+            Visit& visit = path[depth];
+            Set open = both(visit.left, fresh);
+            if (open.empty()) {
+                found.looks += uint64_t(visit.left.size());
+                --depth;
+                continue;
+            }
+            enter(visit, open.first());
+            fresh.remove(visit.column);
+            if (!matched.has(visit.column)) return pair_along(depth);
+            LineNumber next = row_of[visit.column];
+            path[++depth] = {next, 0, conflicts_of(next)};
+        }
+        return false;
+    }
+
+    // Meets the conflicts of a row up to that with a fresh column, all but this
+    // with columns entered before.
+    void enter(Visit& visit, int column) {
+        Set later = above(visit.left, column);
+        found.looks += uint64_t(without(visit.left, later).size());
+        visit.left = later;
+        visit.column = LineNumber(column);
+    }
+
+    // Each row of the path gets the column that it entered last.
+    bool pair_along(int depth) {
+        matched.add(path[depth].column);
+        for (; depth >= 0; --depth) row_of[path[depth].column] = path[depth].row;
+        return true;
+    }
+
+    const Lines& lines;
+    Matched found;
+    Set conflict_columns, matched;
+    std::array<LineNumber, stride> row_of;     // by matched column
+    std::array<Visit, most_side + 1> path;
+};
+
 // A valid marking with all that follows from it. Marks are lifted in the
 // reverse of the order in which they were placed.
 class Live {
 public:
-    Live(const Pattern& pattern, const Caps& caps) : cap{int(caps[0]), int(caps[1])} {
+    Live(const Live&) = delete;
+    Live(const Pattern& pattern, const Caps& caps)
+        : cap{int(caps[0]), int(caps[1])}, matching(lines) {
         for (int nonzero = 0; nonzero < pattern.nonzeros; ++nonzero) {
             int row = pattern.row[nonzero], column = pattern.column[nonzero] - pattern.rows;
             lines[row].crossing.add(column);
@@ -67,7 +169,6 @@ public:
 
     Mark mark(int line) const { return lines[line].mark; }
     int cut_lines() const { return cut; }
-    int taken_by(int part) const { return taken[part]; }
 
     // Whether the marking stays valid with `line` marked.
     bool fits(int line, Mark mark) const {
@@ -82,6 +183,21 @@ public:
         const Line& it = lines[line];
         if (mark == mark_cut) return cut + torn + 1 - (it.taken[0] > 0 && it.taken[1] > 0);
         return cut + torn + both(it.crossing, leaning[1 - side_of(line)][1 - mark]).size();
+    }
+
+    // The matching with `line` marked, if that fits.
+    Matched matching_with(int line, Mark mark) {
+        Leaning with = leaning;
+        int side = side_of(line), other_side = 1 - side;
+        for (Set& to_part : with[side]) to_part.remove(place_of(line));
+        if (mark != mark_cut) {
+            const Set& crossing = lines[line].crossing;
+            Set& to_mark = with[other_side][mark];
+            Set& to_other = with[other_side][1 - mark];
+            to_mark = either(to_mark, both(crossing, untouched[other_side]));
+            to_other = without(to_other, crossing);
+        }
+        return matching.search(with);
     }
 
     void place(int line, Mark mark) {
@@ -114,24 +230,10 @@ public:
         enter_condition(line);
     }
 
-    // The bound if it is below `limit`; otherwise some number not below it.
-    int bound_below(int limit) {
-        int base = cut + torn;
-        if (base >= limit) return limit;
-        int l3 = strikes(0, limit - base);
-        if (base + l3 < limit) l3 += strikes(1, limit - base - l3);
-        if (base + l3 >= limit) return limit;
-        return base + std::max(l3, matching(limit - base));
-    }
-
-    // Whether the bound is below `limit`; avoids the matching where it can.
-    bool bound_is_below(int limit) {
-        int room = limit - cut - torn;
-        if (room <= 0) return false;
-        int l3 = strikes(0, room);
-        if (l3 < room) l3 += strikes(1, room - l3);
-        if (l3 >= room) return false;
-        return conflicts < room || most_matched() < room || matching(room) < room;
+    // L3 if it is below `limit`; otherwise some number not below it.
+    int l3_below(int limit) const {
+        int struck = strikes(0, limit);
+        return struck < limit ? struck + strikes(1, limit - struck) : struck;
     }
 
     // All at once, for tests.
@@ -142,23 +244,19 @@ public:
         result.taken = {taken[0], taken[1]};
         result.l1 = cut;
         result.l2 = torn;
-        result.l3 = strikes(0, no_limit) + strikes(1, no_limit);
-        result.l4 = matching(no_limit);
+        result.l3 = l3_below(no_limit);
+        Matched matched = matching.search(leaning);
+        result.l4 = matched.size;
+        result.looks = matched.looks;
         return result;
     }
 
 private:
-    struct Line {
-        Set crossing;               // the lines of the other side it has nonzeros in
-        uint8_t size = 0;
-        Mark mark = unmarked;
-        uint8_t taken[2] = {0, 0};  // by part; stands still while the line is marked
-    };
-
     void set_up(int line) {
         lines[line].size = uint8_t(lines[line].crossing.size());
         widest = std::max(widest, int(lines[line].size));
         unmarked_lines[side_of(line)].add(place_of(line));
+        untouched[side_of(line)].add(place_of(line));
     }
 
     // An unmarked line enters the condition that its taken counts give it.
@@ -167,6 +265,7 @@ private:
         if (it.taken[0] > 0 && it.taken[1] > 0) ++torn;
         else if (it.taken[0] > 0) lean(line, 0);
         else if (it.taken[1] > 0) lean(line, 1);
+        else untouched[side_of(line)].add(place_of(line));
     }
 
     void leave_condition(int line) {
@@ -174,6 +273,7 @@ private:
         if (it.taken[0] > 0 && it.taken[1] > 0) --torn;
         else if (it.taken[0] > 0) unlean(line, 0);
         else if (it.taken[1] > 0) unlean(line, 1);
+        else untouched[side_of(line)].remove(place_of(line));
     }
 
     void lean(int line, int part) {
@@ -182,7 +282,6 @@ private:
         leaning[side][part].add(place_of(line));
         ++lines_with[part][untaken];
         leaning_sum[part] += untaken - both(it.crossing, leaning[1 - side][part]).size();
-        conflicts += both(it.crossing, leaning[1 - side][1 - part]).size();
     }
 
     void unlean(int line, int part) {
@@ -191,7 +290,6 @@ private:
         leaning[side][part].remove(place_of(line));
         --lines_with[part][untaken];
         leaning_sum[part] -= untaken - both(it.crossing, leaning[1 - side][part]).size();
-        conflicts -= both(it.crossing, leaning[1 - side][1 - part]).size();
     }
 
     // An untaken nonzero of an unmarked line becomes taken by `part`.
@@ -242,86 +340,16 @@ private:
         return struck;
     }
 
-    // No matching has more conflicts than this.
-    int most_matched() const {
-        return std::min(leaning[0][0].size(), leaning[1][1].size()) +
-               std::min(leaning[0][1].size(), leaning[1][0].size());
-    }
-
-    // L4, or `enough` as soon as it is known not to be below it. Starts from
-    // the pairs of the last time that still are conflicts.
-    int matching(int enough) {
-        int size = keep_pairs();
-        for (int part = 0; part < 2; ++part) {
-            // Columns entered by a search that failed lead nowhere later on.
-            Set fresh = leaning[1][1 - part];
-            Set start = without(leaning[0][part], paired[0]);
-            while (!start.empty() && !fresh.empty()) {
-                if (size >= enough) return enough;
-                int row = start.first();
-                start.remove(row);
-                Set not_entered = fresh;
-                if (visit_row(row, not_entered)) ++size;
-                else fresh = not_entered;
-            }
-        }
-        return std::min(size, enough);
-    }
-
-    int keep_pairs() {
-        int size = 0;
-        for_each(paired[0], [&](int row) {
-            int column = column_of[row];
-            bool conflict = (leaning[0][0].has(row) && leaning[1][1].has(column)) ||
-                            (leaning[0][1].has(row) && leaning[1][0].has(column));
-            if (conflict) {
-                ++size;
-            } else {
-                paired[0].remove(row);
-                paired[1].remove(column);
-            }
-        });
-        return size;
-    }
-
-    // Looks for an augmenting path from `row` over the columns in `fresh`.
-    bool visit_row(int row, Set& fresh) {
-        Set ways = both(lines[row].crossing, fresh);
-        Set unpaired = without(ways, paired[1]);
-        if (!unpaired.empty()) {
-            pair(row, unpaired.first());
-            return true;
-        }
-        for (; !ways.empty(); ways = both(ways, fresh)) {
-            int column = ways.first();
-            fresh.remove(column);
-            if (visit_row(row_of[column], fresh)) {
-                pair(row, column);
-                return true;
-            }
-        }
-        return false;
-    }
-
-    void pair(int row, int column) {
-        paired[0].add(row);
-        paired[1].add(column);
-        column_of[row] = LineNumber(column);
-        row_of[column] = LineNumber(row);
-    }
-
     std::array<int, 2> cap;                        // by part
     int widest = 0;                                // the size of the largest line
-    std::array<Line, 2 * stride> lines;
-    std::array<Set, 2> unmarked_lines;             // by side
-    std::array<std::array<Set, 2>, 2> leaning;     // by side and part
+    Lines lines;
+    std::array<Set, 2> unmarked_lines, untouched;  // by side
+    Leaning leaning;
     std::array<int, 2> taken = {0, 0};             // D0, D1
     int cut = 0, torn = 0;                         // L1, L2
     std::array<int, 2> leaning_sum = {0, 0};       // s of each part
     std::array<std::array<uint8_t, most_side + 1>, 2> lines_with{};  // by part, untaken
-    int conflicts = 0;
-    std::array<Set, 2> paired;                     // by side: lines in a pair
-    std::array<LineNumber, stride> column_of{}, row_of{};
+    Matching matching;
 };
 
 int live_number(const Pattern& pattern, int line) {
@@ -358,6 +386,7 @@ public:
             }
         }
         record.tries += budget - left;
+        record.looks += looks;
         record.complete = complete;
         record.trail = marks();
         if (!complete) record.trail.push_back(last);
@@ -376,13 +405,17 @@ public:
     }
 
 private:
-    // Whether the trail stands; if so, its last mark is placed.
+    // Whether the trail stands; if so, its last mark is placed. Counts the looks
+    // of a valid trail, whether or not it stands.
     bool last_stands() {
         int line = order[placed];
         if (!live.fits(line, last)) return false;
-        if (live.cut_and_torn_with(line, last) >= best_count) return false;
+        Matched matched = live.matching_with(line, last);
+        looks += matched.looks;
+        int room = best_count - live.cut_and_torn_with(line, last);
+        if (matched.size >= room) return false;
         live.place(line, last);
-        if (live.bound_is_below(best_count)) return true;
+        if (live.l3_below(room) < room) return true;
         live.lift(line);
         return false;
     }
@@ -413,9 +446,12 @@ private:
 
     void look_at(Mark mark, int& least) {
         int line = order[placed];
-        if (!live.fits(line, mark) || live.cut_and_torn_with(line, mark) >= least) return;
+        if (!live.fits(line, mark)) return;
+        int base = live.cut_and_torn_with(line, mark);
+        if (base >= least) return;
+        int l4 = live.matching_with(line, mark).size;
         live.place(line, mark);
-        least = std::min(least, live.bound_below(least));
+        least = std::min(least, base + std::max(l4, live.l3_below(least - base)));
         live.lift(line);
     }
 
@@ -439,6 +475,7 @@ private:
     int depth;
     int placed = 0;        // marks of the trail that are placed
     Mark last = mark_0;    // the mark after them
+    uint64_t looks = 0;    // of the tries made here
     int best_count;
     bool complete;
 };

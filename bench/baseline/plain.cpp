@@ -101,7 +101,8 @@ private:
         return struck;
     }
 
-    // The most conflicts no two of which share a line.
+    // The most conflicts no two of which share a line: from each row that has
+    // some, ascending. Counts the looks.
     int matching() {
         matched_row.fill(-1);
         int size = 0;
@@ -113,9 +114,12 @@ private:
         return size;
     }
 
+    // Through the row's conflict columns, ascending and depth first, until an
+    // unmatched one; each conflict met is a look.
     bool visit_row(int row) {
         for (int at = first_conflict[row]; at < last_conflict[row]; ++at) {
             int column = conflict_column[at];
+            ++result.looks;
             if (entered[column]) continue;
             entered[column] = true;
             if (matched_row[column] < 0 || visit_row(matched_row[column])) {
@@ -172,6 +176,7 @@ void advance(Record& record) {
 void try_once(const Pattern& pattern, Record& record) {
     ++record.tries;
     Evaluation found = evaluate_trail(pattern, record.caps, record.trail);
+    if (found.valid) record.looks += found.looks;
     bool stands = found.valid && uint64_t(found.bound()) < record.best_count;
     if (stands && record.trail.size() < pattern.depth()) {
         record.trail.push_back(mark_0);

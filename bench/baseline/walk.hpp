@@ -1,8 +1,8 @@
 // The walk of document 01 (exact bipartitioning of a sparse pattern), with the
-// two caps of document 02, twice, behind one interface. walk.cpp holds what both
-// share: the checks with their refusals, the opening, the showing and the C
-// functions. plain.cpp and incremental.cpp each hold one way of making tries and
-// finding the floor.
+// two caps and the looks of document 02, twice, behind one interface. walk.cpp
+// holds what both share: the checks with their refusals, the opening, the showing
+// and the C functions. plain.cpp and incremental.cpp each hold one way of making
+// tries, counting looks and finding the floor.
 #pragma once
 
 #include <array>
@@ -17,7 +17,7 @@ constexpr uint64_t most_nonzeros = 2000;
 constexpr uint64_t most_cap = 2000;
 constexpr uint64_t most_percent = 100;
 constexpr uint64_t most_budget = 1000000;     // a call
-constexpr uint64_t most_tries = 1000000000000000;  // a search
+constexpr uint64_t most_tries = 10000000000000;  // a search; so that looks fit eight bytes
 constexpr size_t most_lines = 2 * most_side;
 
 // A refusal's number and place. Number 0: accepted.
@@ -65,6 +65,7 @@ struct Record {
     uint64_t rows = 0, columns = 0, nonzeros = 0;
     Caps caps = {0, 0};
     uint64_t tries = 0;
+    uint64_t looks = 0;             // of the matching, over all tries on a valid trail
     uint64_t best_count = 0;
     bool has_best = false;
     Marking best;
@@ -80,12 +81,14 @@ struct Shown {
     uint64_t floor = 0;
 };
 
-// What document 01 says of one marking of any set of lines. The four numbers
-// under the bound have no meaning if the marking is not valid.
+// What document 01 says of one marking of any set of lines, and the looks of
+// document 02. The five numbers under the bound have no meaning if the marking
+// is not valid.
 struct Evaluation {
     bool valid = false;
     std::array<int, 2> taken = {0, 0};
     int l1 = 0, l2 = 0, l3 = 0, l4 = 0;
+    uint64_t looks = 0;             // of the search for L4's matching
     int bound() const { return l1 + l2 + (l3 > l4 ? l3 : l4); }
 };
 

@@ -130,14 +130,14 @@ module _ (text : List ℕ) (percent budget : ℕ) (accepted : readVerdict text l
       shown-tells (show-answer.Refused word place) e =
           refused-not (sym (told m n nonzeros list caps budget capped within partsRoom .refused word place .0 e) ∙ shows m n nonzeros list caps budget capped within partsRoom parts-room)
 
-      run-tells : (done : Bool) → NoRefusal (printedAs (afterRun rest m n nonzeros list (ended done) After) out)
+      run-tells : (done : Bool) (looks : ℕ) → NoRefusal (printedAs (afterRun rest m n nonzeros list (ended done looks) After) out)
       unfolding ended afterRun searchAnswer
-      run-tells true = shown-tells Showing refl
-      run-tells false = shown-tells Showing refl
+      run-tells true looks = shown-tells Showing refl
+      run-tells false looks = shown-tells Showing refl
 
       pub text-answered : NoRefusal (printedAs (patternAnswer text percent budget) out)
       text-answered =
           subst
           (λ a. NoRefusal (printedAs a out))
           (sym (after-run ∙ ap (λ (a : RunAnswer). afterRun rest m n nonzeros list a After) (run-ended m n nonzeros list caps budget capped within)))
-          (run-tells _)
+          (run-tells _ _)

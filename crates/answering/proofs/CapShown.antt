@@ -38,8 +38,8 @@ module _ (m n nonzeros : ℕ) (list : List ℕ) (percent budget : ℕ) where
 
     run-so : (a : RunAnswer) → ShowsCap nonzeros percent (afterRun rest m n nonzeros list a s)
     unfolding afterRun searchAnswer
-    run-so run-answer.Complete = shown-so _ _
-    run-so run-answer.Stopped = shown-so _ _
+    run-so (run-answer.Complete looks) = shown-so _ _
+    run-so (run-answer.Stopped looks) = shown-so _ _
     run-so (run-answer.Refused word place) = tt
 
   -- after an opening with a cap that was answered, and after the cap

@@ -158,8 +158,8 @@ module _ (ran call : Ran) (rest m n nonzeros : ℕ) (list : List ℕ) (called : 
       (a : RunAnswer) → (tagOf (declared run-enum) a ≡ 0) ⊎ (tagOf (declared run-enum) a ≡ 1) →
       afterRun rest m n nonzeros list a (ran .search) ≡ searchAnswer rest m n nonzeros list (ran .search)
   unfolding afterRun
-  run-shown run-answer.Complete h = refl
-  run-shown run-answer.Stopped h = refl
+  run-shown (run-answer.Complete looks) h = refl
+  run-shown (run-answer.Stopped looks) h = refl
   run-shown (run-answer.Refused word place) h = ⊎-elim (λ e. no-way (omega arith)) (λ e. no-way (omega arith)) h
 
   pub ran-shown :

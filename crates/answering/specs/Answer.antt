@@ -92,8 +92,8 @@ module _ (rest m n nonzeros : ℕ) (list : List ℕ) where
 
   -- after the run
   unfoldable pub afterRun : RunAnswer → Search → Answer
-  afterRun run-answer.Complete s = searchAnswer s
-  afterRun run-answer.Stopped s = searchAnswer s
+  afterRun (run-answer.Complete looks) s = searchAnswer s
+  afterRun (run-answer.Stopped looks) s = searchAnswer s
   afterRun (run-answer.Refused word place) s = gives-refusal word place
 
   -- one run

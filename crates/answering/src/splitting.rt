@@ -107,8 +107,8 @@ fn put_run(
     let answer = ran.answer;
     let after = ran.search;
     match answer {
-        RunAnswer::Complete => put_search(after, rest, m, n, nonzeros, list, out),
-        RunAnswer::Stopped => put_search(after, rest, m, n, nonzeros, list, out),
+        RunAnswer::Complete { looks: _ } => put_search(after, rest, m, n, nonzeros, list, out),
+        RunAnswer::Stopped { looks: _ } => put_search(after, rest, m, n, nonzeros, list, out),
         RunAnswer::Refused(word, place) => put_refused(out, word, place),
     }
 }

@@ -10,7 +10,7 @@ use native.Mathlib.Omega.{arith}
 use lib.Dec.{eqb, ltb}
 use lib.ListN.{length, getD, getD-replicate}
 use borrow.Author.Tests.{ltb-true, eqb-true}
-use Rattle.counting.specs.Tests.{_and_, _or_}
+use Rattle.counting.specs.Tests.{_and_}
 use Rattle.counting.proofs.Joined.{clash, or-cases, and-left}
 use Rattle.counting.proofs.Lists.{getD-any}
 use Rattle.model.specs.declared.Verdict.the-variants.{Accepted}
@@ -67,6 +67,7 @@ not-valid P caps μ t zero₀ one₀ zero₁ one₁ r k v e z o none =
       struck-is = λ h. clash h e;
       matched-is = λ h. clash h e;
       bound-is = λ h. clash h e;
+      looks-is = λ h. clash h e;
       none = λ h. none;
     }
 
@@ -99,6 +100,7 @@ module _ (m n nonzeros : ℕ) (list marks : List ℕ) {t : Taken} {by-zero by-on
             (ez ∙ ap (λ (d : ℕ). caps .cap0 - d) (k .takes-all .zero-is))
             (eo ∙ ap (λ (d : ℕ). caps .cap1 - d) (k .takes-all .one-is));
         matched-is = low .matched-is;
+        looks-is = low .looks-is;
       }
 
 -- an array of no lines is one of zeros

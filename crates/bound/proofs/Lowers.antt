@@ -1,47 +1,49 @@
--- L3 and L4 from the arrays of an evaluation.
+-- L3, L4 and its looks from the arrays of an evaluation.
 -- Assumes nothing.
 use mathlib.Core.List.{List}
-use mathlib.Core.Path.{_≡_, refl, sym, _∙_, ap}
+use mathlib.Core.Path.{_≡_, sym, _∙_, ap}
 use Prim.Native.Nat.{ℕ, zero, suc, _+_, _-_, _≤_, _<_}
 use native.Mathlib.Omega.{arith}
 use lib.Dec.{eqb}
 use borrow.Author.Tests.{eqb-true}
 use Rattle.counting.specs.Tests.{pick}
-use Rattle.counting.proofs.Joined.{by-test, pick-true, pick-false}
+use Rattle.counting.proofs.Joined.{by-test, pick-true, pick-false, bit-le-one}
 use Rattle.model.specs.declared.Part.{Part}
 use Rattle.model.specs.declared.Part.the-variants.{Zero, One}
 use Rattle.model.specs.declared.Caps.{Caps}
 use Rattle.model.specs.Pattern.{patternOf}
 use Rattle.model.specs.Split.{partNumber, capOf}
 use Rattle.model.specs.Marking.{Marking, taken}
-use Rattle.model.specs.Bound.{atStake, struck, L3}
+use Rattle.model.specs.Bound.{atStake, struck, L3, L4}
+use Rattle.model.specs.Matching.{Tally, startFrom, counted, startsFrom, looks, conflicts}
+use Rattle.model.proofs.Matching.Searched.{search-is-L4}
+use Rattle.model.proofs.Matching.Looks.{no-conflicts, no-looks}
 use Rattle.model.proofs.Theorems.OfList.{lines-of, size-of}
-use Rattle.matching.specs.Augmenting.{Ground, ground, startFrom, startsOf, searchSize}
-use Rattle.matching.proofs.Visits.Size.{start-small}
-use Rattle.matching.proofs.Paths.Greatest.{Arrays, matching-is-L4}
+use Rattle.matching.specs.declared.augmenting.Matching.{Matching}
+use Rattle.matching.specs.Augmenting.{Ground, ground, columnsIn, searched, matchingIn, sideRoom}
+use Rattle.matching.proofs.Conflicts.{Arrays, searched-is}
 use Rattle.weighing.specs.declared.weights.Stakes.{Stakes}
 use Rattle.weighing.specs.Weights.{WeighsAll, stakeIn}
 use Rattle.weighing.specs.Striking.{struckIn}
 use Rattle.weighing.proofs.Struck.{struck-is}
-use Rattle.weighing.proofs.Weighed.{stake-is, no-conflicts}
+use Rattle.weighing.proofs.Weighed.{stake-is, conflicts-are}
 use Rattle.bound.specs.declared.lower.Lower.{Lower}
-use Rattle.bound.specs.Evaluated.{Listed, LeansAt, Lowered}
+use Rattle.bound.specs.Evaluated.{Listed, LeansAt, Lowered, noMatching}
 
 -- each row adds at most one successful start
-starts-most : (G : Ground) (i : ℕ) → startsOf G i .size ≤ i
-unfolding startsOf
-starts-most G zero = omega arith
-starts-most G (suc i) =
-    let mate = startsOf G i .mate in
+starts-most : (columns : ℕ → List ℕ) (n i : ℕ) → startsFrom columns n i .size ≤ i
+unfolding startsFrom counted
+starts-most columns n zero = omega arith
+starts-most columns n (suc i) =
     omega (
       arith,
-      starts-most G i,
-      start-small G i (startFrom G i mate .size) (startFrom G i mate .mate) mate refl,
+      starts-most columns n i,
+      bit-le-one (startFrom columns n i (startsFrom columns n i .mate) .found),
     )
 
-pub search-most : (G : Ground) → searchSize G ≤ G .m
-unfolding searchSize
-search-most G = starts-most G (G .m)
+pub search-most : (G : Ground) → matchingIn G .size ≤ G .m
+unfolding matchingIn searched
+search-most G = starts-most (columnsIn G) sideRoom (G .m)
 
 -- its rows rise
 rows-rise :
@@ -89,18 +91,41 @@ module _ (m n nonzeros : ℕ) (list starts : List ℕ) (μ : Marking) (lean : Li
         one-are = right One;
       }
 
-  -- L3 and L4
+  -- the matching: its size is L4
+  matched-are :
+      (count : ℕ) (x : Matching) → count ≡ conflicts (patternOf m n nonzeros list) μ →
+      x ≡ pick (eqb count 0) noMatching (matchingIn (ground lean m list starts)) →
+      (x .size ≡ L4 (patternOf m n nonzeros list) μ) × (x .looks ≡ looks (patternOf m n nonzeros list) μ)
+  unfolding matchingIn looks
+  matched-are count x ec e =
+      let P = patternOf m n nonzeros list in
+      by-test
+      (eqb count 0)
+      (λ z. let none = sym ec ∙ eqb-true count 0 z in
+      let is = e ∙ pick-true noMatching (matchingIn (ground lean m list starts)) z in (
+        ap (λ (y : Matching). y .size) is ∙ sym (no-conflicts P μ (k .inside) none),
+        ap (λ (y : Matching). y .looks) is ∙ sym (no-looks P μ (k .inside) none),
+      ))
+      (λ z. let is = e ∙ pick-false noMatching (matchingIn (ground lean m list starts)) z in
+      let all = searched-is m n nonzeros list lean starts μ arrays in (
+        ap (λ (y : Matching). y .size) is
+            ∙ ap (λ (y : Tally). y .size) all
+            ∙ search-is-L4 P μ (k .inside),
+        ap (λ (y : Matching). y .looks) is ∙ ap (λ (y : Tally). y .looks) all,
+      ))
+
+  -- L3, L4 and its looks
   pub lowered :
-      (weights : List ℕ) {r : Stakes} (x y matched zero-room one-room : ℕ) →
+      (weights : List ℕ) {r : Stakes} (x y zero-room one-room : ℕ) (matching : Matching) →
       WeighsAll (patternOf m n nonzeros list) μ lean r weights →
       x ≡ struckIn lean weights 0 (m + n) (r .zero) zero-room →
       y ≡ struckIn lean weights 1 (m + n) (r .one) one-room →
-      matched ≡ pick (eqb (r .conflicts) 0) 0 (searchSize (ground lean m list starts)) →
-      (l : Lower) → l .struck ≡ x + y → l .matched ≡ matched →
+      matching ≡ pick (eqb (r .conflicts) 0) noMatching (matchingIn (ground lean m list starts)) →
+      (l : Lower) → l .struck ≡ x + y → l .matched ≡ matching .size → l .looks ≡ matching .looks →
       Lowered (patternOf m n nonzeros list) μ zero-room one-room l
   unfolding L3
-  lowered weights {r} x y matched zero-room one-room w ez eo em l el ek =
-      let P = patternOf m n nonzeros list in
+  lowered weights {r} x y zero-room one-room matching w ez eo em l el ek eq =
+      let found = matched-are (r .conflicts) matching (w .conflicts-is ∙ conflicts-are (patternOf m n nonzeros list) μ lean (k .inside) right) em in
       record {
         struck-is = λ caps e f. omega (
           arith,
@@ -108,13 +133,6 @@ module _ (m n nonzeros : ℕ) (list starts : List ℕ) (μ : Marking) (lean : Li
           struck-part Zero caps weights x (r .zero) zero-room w (w .zero-is) e ez,
           struck-part One caps weights y (r .one) one-room w (w .one-is) f eo,
         );
-        matched-is =
-            ek
-            ∙ em
-            ∙ by-test
-            (eqb (r .conflicts) 0)
-            (λ e. pick-true 0 (searchSize (ground lean m list starts)) e
-            ∙ sym (no-conflicts P μ lean (k .inside) right (sym (w .conflicts-is) ∙ eqb-true (r .conflicts) 0 e)))
-            (λ e. pick-false 0 (searchSize (ground lean m list starts)) e
-            ∙ matching-is-L4 m n nonzeros list lean starts μ arrays);
+        matched-is = ek ∙ found .0;
+        looks-is = eq ∙ found .1;
       }

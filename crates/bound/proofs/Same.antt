@@ -8,7 +8,7 @@ use Rattle.model.specs.Pattern.{Pattern, Inside, lines}
 use Rattle.model.specs.Marking.{Marking}
 use Rattle.model.proofs.Alike.Patterns.{alike-self}
 use Rattle.model.proofs.Alike.Marks.{AlikeMarks, inside-marks, taken-same, valid-same, L1-same, L2-same}
-use Rattle.model.proofs.Alike.Bounds.{L3-same, L4-same, bound-same}
+use Rattle.model.proofs.Alike.Bounds.{L3-same, L4-same, bound-same, looks-same}
 use Rattle.bound.specs.declared.Evaluation.{Evaluation}
 use Rattle.bound.specs.Evaluated.{Evaluates}
 
@@ -27,5 +27,6 @@ evaluates-same P μ ν i same caps r e =
       struck-is = λ v. e .struck-is v ∙ L3-same k caps;
       matched-is = λ v. e .matched-is v ∙ L4-same k;
       bound-is = λ v. e .bound-is v ∙ bound-same k caps;
+      looks-is = λ v. e .looks-is v ∙ looks-same k;
       none = e .none;
     }

@@ -14,6 +14,8 @@ use Rattle.model.specs.Pattern.{Pattern, Inside, patternOf, lines, rowIn}
 use Rattle.model.specs.Split.{partNumber}
 use Rattle.model.specs.Marking.{Marking, place, taken, valid}
 use Rattle.model.specs.Bound.{leans, L1, L2, L3, L4, bound}
+use Rattle.model.specs.Matching.{looks}
+use Rattle.matching.specs.declared.augmenting.Matching.{Matching}
 use Rattle.matching.specs.Starts.{rowStart}
 use Rattle.weighing.specs.declared.taking.Taken.{Taken}
 use Rattle.weighing.specs.declared.leaning.Kinds.{Kinds}
@@ -36,9 +38,10 @@ pub record Placed (P : Pattern) (places : List ℕ) : Type 0 where
   pub placed : (l : ℕ) → l < lines P → getD places l 0 ≡ place P l
   pub others : (l : ℕ) → lines P ≤ l → l < 512 → getD places l 0 ≡ 0
 
--- no L1 to L4 and no bound are given
+-- no L1 to L4, no bound and no looks are given
 abbrev pub NoBound : Evaluation → Type 0
-NoBound r = (r .cut ≡ 0) × (r .torn ≡ 0) × (r .struck ≡ 0) × (r .matched ≡ 0) × (r .bound ≡ 0)
+NoBound r =
+    (r .cut ≡ 0) × (r .torn ≡ 0) × (r .struck ≡ 0) × (r .matched ≡ 0) × (r .bound ≡ 0) × (r .looks ≡ 0)
 
 -- what an evaluation says of a marking: all zero where it is not valid
 pub record Evaluates (P : Pattern) (caps : Caps) (μ : Marking) (r : Evaluation) : Type 0 where
@@ -50,6 +53,7 @@ pub record Evaluates (P : Pattern) (caps : Caps) (μ : Marking) (r : Evaluation)
   pub struck-is : r .valid ≡ true → r .struck ≡ L3 P caps μ
   pub matched-is : r .valid ≡ true → r .matched ≡ L4 P μ
   pub bound-is : r .valid ≡ true → r .bound ≡ bound P caps μ
+  pub looks-is : r .valid ≡ true → r .looks ≡ looks P μ
   pub none : r .valid ≡ false → NoBound r
 
 -- what the pass over the nonzeros answered and left, where it began with no line
@@ -64,11 +68,16 @@ pub record TakenOn (P : Pattern) (μ : Marking) (r : Taken) (by-zero by-one : Li
 abbrev pub LeansAt : Pattern → Marking → List ℕ → Type 0
 LeansAt P μ lean = (p : Part) (l : ℕ) → l < lines P → eqb (getD lean l 0) (partNumber p) ≡ leans P μ p l
 
--- L3, with the room that each part has left, and L4
+-- the matching of no conflicts
+abbrev pub noMatching : Matching
+noMatching = record { size = 0; looks = 0 }
+
+-- L3, with the room that each part has left, L4 and its looks
 pub record Lowered (P : Pattern) (μ : Marking) (zero one : ℕ) (r : Lower) : Type 0 where
   pub struck-is :
       (caps : Caps) → zero ≡ caps .cap0 - taken P μ Zero → one ≡ caps .cap1 - taken P μ One → r .struck ≡ L3 P caps μ
   pub matched-is : r .matched ≡ L4 P μ
+  pub looks-is : r .looks ≡ looks P μ
 
 -- the parts of the evaluation of a valid marking
 pub record Parts (P : Pattern) (caps : Caps) (μ : Marking) (t : Taken) (k : Kinds) (l : Lower) : Type 0 where
@@ -79,3 +88,4 @@ pub record Parts (P : Pattern) (caps : Caps) (μ : Marking) (t : Taken) (k : Kin
   pub torn-is : k .torn ≡ L2 P μ
   pub struck-is : l .struck ≡ L3 P caps μ
   pub matched-is : l .matched ≡ L4 P μ
+  pub looks-is : l .looks ≡ looks P μ

@@ -46,6 +46,7 @@ fn invalid(taken: Taken) -> Evaluation
         struck: 0,
         matched: 0,
         bound: 0,
+        looks: 0,
     }
 }
 
@@ -67,6 +68,7 @@ fn joined(taken: Taken, kinds: Kinds, lower: Lower) -> Evaluation
         struck: lower.struck,
         matched,
         bound: sure + more,
+        looks: lower.looks,
     }
 }
 

@@ -3,7 +3,7 @@ pub mod evaluating;
 pub mod lower;
 pub mod tables;
 
-// What an evaluation says of a marking: whether it is valid, D0 and D1, and for a valid one L1 to L4 and the bound.
+// What an evaluation says of a marking: whether it is valid, D0 and D1, and for a valid one L1 to L4, the bound and the looks.
 pub struct Evaluation {
     pub valid: bool,
     pub zero: u16,
@@ -13,4 +13,5 @@ pub struct Evaluation {
     pub struck: u16,
     pub matched: u64,
     pub bound: u64,
+    pub looks: u64,
 }

@@ -1,6 +1,7 @@
-// L3 and L4, from how lines lean.
+// L3 and L4 with its looks, from how lines lean.
 use marking::order::no_counts;
-use matching::augmenting::matching_size;
+use matching::augmenting::Matching;
+use matching::augmenting::matching_of;
 use weighing::striking::strike;
 use weighing::weights::weigh_lines;
 ghost use mathlib.Core.Path.{_≡_};
@@ -9,13 +10,14 @@ ghost use lib.Dec.{eqb};
 ghost use Rattle.counting.specs.Tests.{pick};
 ghost use Rattle.model.specs.Pattern.{patternOf};
 ghost use Rattle.weighing.specs.Cells.{markingIn};
-ghost use Rattle.matching.specs.Augmenting.{ground, searchSize};
-ghost use Rattle.bound.specs.Evaluated.{Listed, LeansAt, Lowered};
+ghost use Rattle.matching.specs.Augmenting.{ground, matchingIn};
+ghost use Rattle.bound.specs.Evaluated.{Listed, LeansAt, Lowered, noMatching};
 
-// L3 and L4.
+// L3, L4 and the looks of its matching.
 pub struct Lower {
     pub struck: u16,
     pub matched: u64,
+    pub looks: u64,
 }
 
 // The room that a part has left below its cap.
@@ -26,18 +28,18 @@ pub(crate) fn room_of(cap: u64, taken: u16) -> u64
     if t < cap { cap - t } else { 0 }
 }
 
-// L4: without conflicts it is 0.
-fn matched_of(m: u8, lean: &[u8; 512], list: &[u8], starts: &[u16; 257], conflicts: u16) -> u64
-    ensures { λ r. ⌜ (r ≡ pick (eqb conflicts 0) 0 (searchSize (ground (now (lean .entry)) m (now (list .entry)) (now (starts .entry)))))
-        × (r ≤ 255) ⌝ }
+// The matching of L4: without conflicts it is not searched.
+fn matched_of(m: u8, lean: &[u8; 512], list: &[u8], starts: &[u16; 257], conflicts: u16) -> Matching
+    ensures { λ r. ⌜ (r ≡ pick (eqb conflicts 0) noMatching (matchingIn (ground (now (lean .entry)) m (now (list .entry)) (now (starts .entry)))))
+        × (r .size ≤ 255) ⌝ }
 {
     if conflicts == 0 {
-        return 0;
+        return Matching { size: 0, looks: 0 };
     }
-    matching_size(m, lean, list, starts)
+    matching_of(m, lean, list, starts)
 }
 
-// L3 and L4, with the room that each part has left.
+// L3, L4 and its looks, with the room that each part has left.
 pub(crate) fn lower_of(
     m: u8,
     n: u8,
@@ -60,9 +62,10 @@ pub(crate) fn lower_of(
     let conflicts = stakes.conflicts;
     let zero = strike(m, n, lean, &weights, 0, zero_stake, zero_room);
     let one = strike(m, n, lean, &weights, 1, one_stake, one_room);
-    let matched = matched_of(m, lean, list, starts, conflicts);
+    let matching = matched_of(m, lean, list, starts, conflicts);
     Lower {
         struck: zero + one,
-        matched,
+        matched: matching.size,
+        looks: matching.looks,
     }
 }

@@ -1,4 +1,4 @@
-// Prints what an evaluation says of markings of several patterns, in the words of the list of expected bounds. Its input has the cases.
+// Prints what an evaluation says of markings of several patterns, in the words of the list of expected bounds, with looks. Its input has the cases.
 use bound::Evaluation;
 use bound::evaluating::evaluate_lines;
 use libc::STDIN_FILENO;
@@ -15,13 +15,14 @@ use testing::laying::lay_marks;
 use testing::saying::say;
 use testing::saying::say_number;
 
-// The bound of a valid marking, with its parts.
+// The bound of a valid marking, with its parts and its looks.
 fn say_bound(e: Evaluation) {
     say_number(b" L1 ", long16(e.cut));
     say_number(b" L2 ", long16(e.torn));
     say_number(b" L3 ", long16(e.struck));
     say_number(b" L4 ", e.matched);
     say_number(b" bound ", e.bound);
+    say_number(b" looks ", e.looks);
 }
 
 // An evaluation, on a line of its own.

@@ -2,7 +2,7 @@
 -- Assumes nothing.
 use mathlib.Core.Path.{_≡_, refl, sym, _∙_, ap}
 use mathlib.Core.Logic.{⊎-elim}
-use Prim.Native.Nat.{ℕ, zero, suc, _+_, _*_, _≤_, _<_}
+use Prim.Native.Nat.{ℕ, zero, suc, _+_, _-_, _*_, _≤_, _<_}
 use native.Mathlib.Nat.{eq-or-lt-of-le, le-of-suc-le-suc}
 use native.Mathlib.Omega.{arith}
 use Rattle.counting.specs.Sums.{sum}
@@ -81,3 +81,9 @@ sum-more f a zero =
 sum-more f a (suc b) =
     let e : a + suc b ≡ suc (a + b) = omega arith in
     ap (sum f) e ∙ omega (arith, sum-more f a b)
+
+-- fewer terms
+pub sum-within : (f : ℕ → ℕ) (a b : ℕ) → a ≤ b → sum f a ≤ sum f b
+sum-within f a b h =
+    let e : a + (b - a) ≡ b = omega arith in
+    omega (arith, ap (sum f) e, sum-more f a (b - a))

@@ -19,8 +19,8 @@ use testing::saying::say_which;
 // A number for each kind of answer.
 fn number_of(answer: RunAnswer) -> u64 {
     match answer {
-        RunAnswer::Complete => 0,
-        RunAnswer::Stopped => 100,
+        RunAnswer::Complete { looks: _ } => 0,
+        RunAnswer::Stopped { looks: _ } => 100,
         RunAnswer::Refused(word, _) => refusal_number(word),
     }
 }
@@ -28,9 +28,18 @@ fn number_of(answer: RunAnswer) -> u64 {
 // The place of a refusal.
 fn place_of(answer: RunAnswer) -> u64 {
     match answer {
-        RunAnswer::Complete => 0,
-        RunAnswer::Stopped => 0,
+        RunAnswer::Complete { looks: _ } => 0,
+        RunAnswer::Stopped { looks: _ } => 0,
         RunAnswer::Refused(_, place) => place,
+    }
+}
+
+// The looks of a run that is not refused.
+fn looks_of(answer: RunAnswer) -> u64 {
+    match answer {
+        RunAnswer::Complete { looks } => looks,
+        RunAnswer::Stopped { looks } => looks,
+        RunAnswer::Refused(_, _) => 0,
     }
 }
 
@@ -42,7 +51,8 @@ fn say_both(first: Ran, second: Ran) {
     let beside = second.search;
     say_run(answer);
     say_number(b" tries ", search.tries);
-    let answers = number_of(answer) == number_of(other) && place_of(answer) == place_of(other);
+    let kinds = number_of(answer) == number_of(other) && place_of(answer) == place_of(other);
+    let answers = kinds && looks_of(answer) == looks_of(other);
     say_which(answers, b" same answer", b" another answer");
     let searches = same_search(search, beside);
     say_which(searches, b" same search", b" another search");
@@ -105,18 +115,23 @@ fn go(words: &[u8], search: Search, budget: u64) {
     step(search, 3, 2, 4, &list, budget);
 }
 
-// Searches that are no state, or whose tries are at their limit.
+// Searches that are no state, or whose tries or looks are at their limit.
 fn states(search: Search) {
     let mut s = search;
-    s.tries = 1_000_000_000_000_001;
+    s.tries = 10_000_000_000_001;
     go(b"tries over the limit", s, 3);
-    s.tries = 999_999_999_999_997;
+    s.tries = 9_999_999_999_997;
     go(b"tries near the limit", s, 3);
     let mut long = search.trail;
     long.len = 241;
     let mut s = search;
     s.trail = long;
     go(b"trail longer than its bytes", s, 3);
+    let mut s = search;
+    s.looks = 120;
+    go(b"looks of tries x m x N", s, 3);
+    s.looks = 121;
+    go(b"looks over tries x m x N", s, 3);
 }
 
 // Marks past a trail's length, which an accepted run clears.

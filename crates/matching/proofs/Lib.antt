@@ -1,4 +1,3 @@
 pub mod Visits
 pub mod Rows
-pub mod Paths
-pub mod Samples
+pub mod Conflicts

@@ -1,4 +1,4 @@
-pub mod Steps
-pub mod Enough
-pub mod Code
-pub mod Size
+pub mod Arrays
+pub mod Column
+pub mod Row
+pub mod Starts

@@ -1,12 +1,16 @@
--- Document 01, 'The bound', L4: the search for an augmenting path, from a row to a column and from the column back to its matched row.
+-- Document 02, request 6: what the arrays of the code say of the matching's search, which the model defines.
 -- Assumes nothing.
-use mathlib.Core.Bool.{Bool, true, false}
+use mathlib.Core.Bool.{Bool}
 use mathlib.Core.List.{List, [], _∷_}
-use Prim.Native.Nat.{ℕ, zero, suc, _+_, _-_, _%_}
+use mathlib.Core.Path.{_≡_}
+use Prim.Native.Nat.{ℕ, zero, suc, _+_, _-_, _*_, _%_, _≤_}
 use lib.Dec.{eqb, ltb}
-use lib.ListN.{getD, set, replicate}
+use lib.ListN.{length, getD, replicate}
 use Rattle.counting.specs.Tests.{_and_, _or_, pick, bit}
 use Rattle.model.specs.Pattern.{columnIn}
+use Rattle.model.specs.Matching.{Visited, visited, looked, columnsWhere, through, columnWithin, startFrom, Tally, startsFrom}
+use Rattle.matching.specs.declared.augmenting.Visit.{Visit}
+use Rattle.matching.specs.declared.augmenting.Matching.{Matching}
 
 -- what the search goes over: the part that each line leans to (0 or 1, any other number for neither), the number of rows,
 -- the list of nonzeros, and where each row starts in it: row i has the nonzeros numbered from starts[i] to starts[i + 1] - 1
@@ -19,15 +23,9 @@ pub record Ground : Type 0 where
 abbrev pub ground : List ℕ → ℕ → List ℕ → List ℕ → Ground
 ground lean m list starts = record { lean = lean; m = m; list = list; starts = starts }
 
--- what a visit gives: whether it found a free column, the columns entered (0 for one that is not), and the mate of each column
--- (0 for a free one, else its row + 1)
-pub record Visited : Type 0 where
-  pub found : Bool
-  pub seen : List ℕ
-  pub mate : List ℕ
-
-abbrev pub visited : Bool → List ℕ → List ℕ → Visited
-visited found seen mate = record { found = found; seen = seen; mate = mate }
+-- rows and columns that the arrays have room for: rows and columns are bytes
+abbrev pub sideRoom : ℕ
+sideRoom = 256
 
 -- one leans to part 0 and the other to part 1
 unfoldable pub different : ℕ → ℕ → Bool
@@ -37,105 +35,89 @@ different a b = (eqb a 0 and eqb b 1) or (eqb a 1 and eqb b 0)
 unfoldable pub atOdds : List ℕ → ℕ → ℕ → ℕ → Bool
 atOdds lean m i j = different (getD lean i 0) (getD lean (m + j) 0)
 
--- column j was entered before; a column outside the array counts as entered
-unfoldable pub entered : List ℕ → ℕ → Bool
-entered seen j = ltb 0 (getD seen j 1)
+-- a row's columns at odds with it, among n of its nonzeros from nonzero t on
+unfoldable pub columnsFrom : Ground → ℕ → ℕ → ℕ → List ℕ
+columnsFrom G i n t =
+    columnsWhere (λ s. atOdds (G .lean) (G .m) i (columnIn (G .list) s)) (columnIn (G .list)) n t
 
--- the columns not yet entered
+-- all of its columns at odds with it; rows are bytes
+unfoldable pub columnsIn : Ground → ℕ → List ℕ
+columnsIn G i =
+    pick
+    (ltb i sideRoom)
+    (columnsFrom G i (getD (G .starts) (i + 1) 0 - getD (G .starts) i 0) (getD (G .starts) i 0))
+    []
+
+-- the columns entered, in an array that has 0 for a column that is not
+unfoldable pub enteredIn : List ℕ → ℕ → Bool
+enteredIn seen j = ltb 0 (getD seen j 0)
+
+-- the mate that a number of an array stands for: 0, or row + 1; rows are bytes
+unfoldable pub mateOf : ℕ → ℕ
+mateOf zero = 0
+mateOf (suc x) = suc (x % sideRoom)
+
+-- the mates in an array
+unfoldable pub matesIn : List ℕ → ℕ → ℕ
+matesIn mate j = mateOf (getD mate j 0)
+
+-- the columns of an array not yet entered
 unfoldable pub unseen : List ℕ → ℕ
 unseen [] = 0
 unseen (x ∷ xs) = bit (eqb x 0) + unseen xs
 
--- the row of a matched column; rows are bytes
-unfoldable pub mateRow : List ℕ → ℕ → ℕ
-mateRow mate j = (getD mate j 0 - 1) % 256
+-- more nonzeros than a row can have by its starts
+abbrev pub rowRoom : ℕ
+rowRoom = 65536
 
--- a visit that failed is followed by another, one that found a column is not
-unfoldable pub elseGo : Visited → (List ℕ → List ℕ → Visited) → Visited
-elseGo o next = pick (o .found) o (next (o .seen) (o .mate))
+-- what a visit of the code leaves behind: the arrays keep their lengths, its looks are paid for by the columns that it entered, but for a few,
+-- and it is the visit of the search, however deep that may go
+pub record Visits (few : ℕ) (visit : ℕ → Visited) (r : Visit) (before seen mate : List ℕ) : Type 0 where
+  pub seen-long : length seen ≡ sideRoom
+  pub mate-long : length mate ≡ sideRoom
+  pub paid : r .looks + rowRoom * unseen seen ≤ few + rowRoom * unseen before
+  pub is :
+      (depth : ℕ) → unseen before ≤ depth →
+      visited (r .found) (r .looks) (enteredIn seen) (matesIn mate) ≡ visit depth
 
--- what a visit of columns does to a column, a row and the arrays
-abbrev pub Visit : Type 0
-Visit = ℕ → ℕ → List ℕ → List ℕ → Visited
-
--- row i goes through n of its nonzeros, from nonzero t on, in order: where it is at odds with the column, the column is visited;
--- the first success ends it
-unfoldable pub through : Ground → Visit → ℕ → ℕ → ℕ → List ℕ → List ℕ → Visited
-through G visit i zero t seen mate = visited false seen mate
-through G visit i (suc n) t seen mate =
-    let j = columnIn (G .list) t in
-    pick
-    (atOdds (G .lean) (G .m) i j)
-    (elseGo (visit j i seen mate) (through G visit i n (suc t)))
-    (through G visit i n (suc t) seen mate)
-
--- row i goes through all of its nonzeros
-unfoldable pub rowVia : Ground → Visit → ℕ → List ℕ → List ℕ → Visited
-rowVia G visit i seen mate =
-    through
-    G
-    visit
-    i
-    (getD (G .starts) (i + 1) 0 - getD (G .starts) i 0)
-    (getD (G .starts) i 0)
+-- row i goes through its columns
+abbrev pub RowVisits : Ground → ℕ → List ℕ → List ℕ → Visit → List ℕ → List ℕ → Type 0
+RowVisits G i seen₀ mate₀ r seen mate =
+    Visits
+    (rowRoom - 1)
+    (λ depth. through (columnWithin (columnsIn G) depth) i (columnsIn G i) (enteredIn seen₀) (matesIn mate₀))
+    r
+    seen₀
     seen
     mate
 
--- column j, whose row found another column, gets row i; else its mate stays
-unfoldable pub handOver : ℕ → ℕ → Visited → Visited
-handOver j i o = visited (o .found) (o .seen) (pick (o .found) (set (o .mate) j (i + 1)) (o .mate))
+-- the conflict of row i and column j is met, and the column is visited
+abbrev pub ColumnVisits : Ground → ℕ → ℕ → List ℕ → List ℕ → Visit → List ℕ → List ℕ → Type 0
+ColumnVisits G j i seen₀ mate₀ r seen mate =
+    Visits
+    1
+    (λ depth. looked 1 (columnWithin (columnsIn G) depth j i (enteredIn seen₀) (matesIn mate₀)))
+    r
+    seen₀
+    seen
+    mate
 
--- column j is visited for row i: if it was entered before, that fails; else it is entered. If it is free, it gets row i;
--- else its row is visited, and if that succeeds, it gets row i
-unfoldable pub columnStep : Ground → Visit → Visit
-columnStep G visit j i seen mate =
-    pick
-    (entered seen j)
-    (visited false seen mate)
-    (pick
-    (eqb (getD mate j 0) 0)
-    (visited true (set seen j 1) (set mate j (i + 1)))
-    (handOver j i (rowVia G visit (mateRow mate j) (set seen j 1) mate)))
-
--- the visit of a column, with at most so many columns entered on the way
-unfoldable pub columnWithin : Ground → ℕ → Visit
-columnWithin G zero j i seen mate = visited false seen mate
-columnWithin G (suc f) j i seen mate = columnStep G (columnWithin G f) j i seen mate
-
--- the visit of a column: no more columns can be entered than are not entered yet
-unfoldable pub visitColumn : Ground → Visit
-visitColumn G j i seen mate = columnWithin G (unseen seen) j i seen mate
-
--- the visit of a row
-unfoldable pub visitRow : Ground → ℕ → List ℕ → List ℕ → Visited
-visitRow G i seen mate = rowVia G (visitColumn G) i seen mate
-
--- no column entered, or every column free
+-- no column entered, or every column unmatched
 unfoldable pub noColumns : List ℕ
-noColumns = replicate 256 0
+noColumns = replicate sideRoom 0
 
--- the number of successful starts, and the mates
-pub record Tally : Type 0 where
-  pub size : ℕ
-  pub mate : List ℕ
+-- a start from row i
+pub record Starts (G : Ground) (i : ℕ) (mate₀ : List ℕ) (r : Visit) (mate : List ℕ) : Type 0 where
+  pub mate-long : length mate ≡ sideRoom
+  pub few : r .looks ≤ rowRoom * (sideRoom + 1)
+  pub found-is : r .found ≡ startFrom (columnsIn G) sideRoom i (matesIn mate₀) .found
+  pub looks-is : r .looks ≡ startFrom (columnsIn G) sideRoom i (matesIn mate₀) .looks
+  pub mate-is : matesIn mate ≡ startFrom (columnsIn G) sideRoom i (matesIn mate₀) .mate
 
-abbrev pub tally : ℕ → List ℕ → Tally
-tally size mate = record { size = size; mate = mate }
+-- the starts from each row in turn
+unfoldable pub searched : Ground → Tally
+searched G = startsFrom (columnsIn G) sideRoom (G .m)
 
--- a start from row i, with no column entered: 1 if it succeeded; a row that leans to no part has no conflict and is passed over
-unfoldable pub startFrom : Ground → ℕ → List ℕ → Tally
-startFrom G i mate =
-    let o = visitRow G i noColumns mate in
-    pick (ltb 1 (getD (G .lean) i 0)) (tally 0 mate) (tally (bit (o .found)) (o .mate))
-
--- a start from each of the first i rows, ascending, with every column free at first
-unfoldable pub startsOf : Ground → ℕ → Tally
-startsOf G zero = tally 0 noColumns
-startsOf G (suc i) =
-    let k = startsOf G i in
-    let s = startFrom G i (k .mate) in
-    tally (k .size + s .size) (s .mate)
-
--- the number of successful starts
-unfoldable pub searchSize : Ground → ℕ
-searchSize G = startsOf G (G .m) .size
+-- size and looks
+unfoldable pub matchingIn : Ground → Matching
+matchingIn G = record { size = searched G .size; looks = searched G .looks }

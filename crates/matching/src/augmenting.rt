@@ -1,11 +1,27 @@
-// The search for augmenting paths, from a row to a column and from the column back to its matched row.
-// Any values are taken; the two visits only ask that the array of columns entered has its length.
+// The search for augmenting paths, from a row to a column and from the column back to its matched row, with its looks.
+// Any values are taken; the two visits only ask that the arrays of columns entered and of mates have their length.
+use counting::joining::bit_of;
 use pattern::reading::column_of;
+use pattern::reading::long16;
 use pattern::reading::wide;
 ghost use mathlib.Core.Path.{_≡_};
+ghost use mathlib.Core.Bool.{not};
 ghost use Prim.Native.Nat.{_+_};
 ghost use lib.ListN.{length, getD};
-ghost use Rattle.matching.specs.Augmenting.{ground, visited, different, atOdds, visitColumn, visitRow, noColumns, tally, startFrom, searchSize};
+ghost use Rattle.model.specs.Walk.{isEmpty};
+ghost use Rattle.matching.specs.Augmenting.{ground, sideRoom, different, atOdds, columnsIn, RowVisits, ColumnVisits, noColumns, Starts, matchingIn};
+
+// What a visit answers: whether it ended at an unmatched column, and its looks.
+pub struct Visit {
+    pub found: bool,
+    pub looks: u64,
+}
+
+// The size of a matching, and the looks that it took to find it.
+pub struct Matching {
+    pub size: u64,
+    pub looks: u64,
+}
 
 // One leans to part 0 and the other to part 1.
 fn differ(a: u8, b: u8) -> bool
@@ -52,25 +68,31 @@ fn row_visit(
     i: u8,
     seen: &mut [u8; 256],
     mate: &mut [u16; 256],
-) -> bool
-    requires { ⌜ length (now seen) ≡ 256 ⌝ }
-    ensures { λ r. ⌜ visited r (now (seen .exit)) (now (mate .exit)) ≡ visitRow (ground (now (lean .entry)) m (now (list .entry)) (now (starts .entry))) i (now (seen .entry)) (now (mate .entry)) ⌝ }
+) -> Visit
+    requires { ⌜ (length (now seen) ≡ sideRoom) × (length (now mate) ≡ sideRoom) ⌝ }
+    ensures { λ r. ⌜ RowVisits (ground (now (lean .entry)) m (now (list .entry)) (now (starts .entry))) i (now (seen .entry)) (now (mate .entry)) r (now (seen .exit)) (now (mate .exit)) ⌝ }
 {
     let mut t = first_of(starts, i);
     let end = end_of(starts, i);
+    let mut looks: u64 = 0;
     while t < end {
         let j = column_of(list, t);
         if at_odds(lean, m, i, j) {
-            if column_visit(lean, m, list, starts, j, i, seen, mate) {
-                return true;
+            let visit = column_visit(lean, m, list, starts, j, i, seen, mate);
+            looks += visit.looks;
+            if visit.found {
+                return Visit { found: true, looks };
             }
         }
         t += 1;
     }
-    false
+    Visit {
+        found: false,
+        looks,
+    }
 }
 
-// Column j for row i: it gets row i if it is free, or if its own row finds another column.
+// The conflict of row i and column j is met, which is a look. The column gets row i if it is free, or if its own row finds another column.
 fn column_visit(
     lean: &[u8; 512],
     m: u8,
@@ -80,24 +102,54 @@ fn column_visit(
     i: u8,
     seen: &mut [u8; 256],
     mate: &mut [u16; 256],
-) -> bool
-    requires { ⌜ length (now seen) ≡ 256 ⌝ }
-    ensures { λ r. ⌜ visited r (now (seen .exit)) (now (mate .exit)) ≡ visitColumn (ground (now (lean .entry)) m (now (list .entry)) (now (starts .entry))) j i (now (seen .entry)) (now (mate .entry)) ⌝ }
+) -> Visit
+    requires { ⌜ (length (now seen) ≡ sideRoom) × (length (now mate) ≡ sideRoom) ⌝ }
+    ensures { λ r. ⌜ ColumnVisits (ground (now (lean .entry)) m (now (list .entry)) (now (starts .entry))) j i (now (seen .entry)) (now (mate .entry)) r (now (seen .exit)) (now (mate .exit)) ⌝ }
 {
     let column = wide(j);
     if seen[column] != 0 {
-        return false;
+        return Visit {
+            found: false,
+            looks: 1, // entered before, and a look all the same
+        };
     }
     seen[column] = 1;
     let held = mate[column];
     if held == 0 {
         mate[column] = (i as u16) + 1;
-        return true;
+        return Visit {
+            found: true,
+            looks: 1,
+        };
     }
     let r = ((held - 1) % 256) as u8;
-    if row_visit(lean, m, list, starts, r, seen, mate) {
+    let visit = row_visit(lean, m, list, starts, r, seen, mate);
+    let looks = visit.looks + 1;
+    if visit.found {
         mate[column] = (i as u16) + 1;
-        return true;
+        return Visit { found: true, looks };
+    }
+    Visit {
+        found: false,
+        looks,
+    }
+}
+
+// Row i has a conflict. One that leans to no part has none.
+fn has_conflict(lean: &[u8; 512], m: u8, list: &[u8], starts: &[u16; 257], i: u8) -> bool
+    ensures { λ r. ⌜ r ≡ not (isEmpty (columnsIn (ground (now (lean .entry)) m (now (list .entry)) (now (starts .entry))) i)) ⌝ }
+{
+    let row = wide(i);
+    if lean[row] > 1 {
+        return false;
+    }
+    let mut t = first_of(starts, i);
+    let end = end_of(starts, i);
+    while t < end {
+        if at_odds(lean, m, i, column_of(list, t)) {
+            return true;
+        }
+        t += 1;
     }
     false
 }
@@ -116,7 +168,7 @@ fn no_mates() -> [u16; 256]
     [0u16; 256]
 }
 
-// A start from row i: 1 if it finds a column, else 0. A row that leans to no part has no conflict.
+// A start from row i. A row without conflicts is passed over, before there is an array of columns entered.
 fn start_from(
     lean: &[u8; 512],
     m: u8,
@@ -124,31 +176,33 @@ fn start_from(
     starts: &[u16; 257],
     i: u8,
     mate: &mut [u16; 256],
-) -> u64
-    ensures { λ r. ⌜ tally r (now (mate .exit)) ≡ startFrom (ground (now (lean .entry)) m (now (list .entry)) (now (starts .entry))) i (now (mate .entry)) ⌝ }
+) -> Visit
+    requires { ⌜ length (now mate) ≡ sideRoom ⌝ }
+    ensures { λ r. ⌜ Starts (ground (now (lean .entry)) m (now (list .entry)) (now (starts .entry))) i (now (mate .entry)) r (now (mate .exit)) ⌝ }
 {
-    let row = wide(i);
-    if lean[row] > 1 {
-        return 0;
+    if has_conflict(lean, m, list, starts, i) {
+        let mut seen = no_columns();
+        return row_visit(lean, m, list, starts, i, &mut seen, mate);
     }
-    let mut seen = no_columns();
-    if row_visit(lean, m, list, starts, i, &mut seen, mate) {
-        return 1;
+    Visit {
+        found: false,
+        looks: 0,
     }
-    0
 }
 
-// The number of successful starts, from each row in turn.
-pub fn matching_size(m: u8, lean: &[u8; 512], list: &[u8], starts: &[u16; 257]) -> u64
-    ensures { λ r. ⌜ r ≡ searchSize (ground (now (lean .entry)) m (now (list .entry)) (now (starts .entry))) ⌝ }
+// The matching of the conflicts: a start from each row in turn.
+pub fn matching_of(m: u8, lean: &[u8; 512], list: &[u8], starts: &[u16; 257]) -> Matching
+    ensures { λ r. ⌜ r ≡ matchingIn (ground (now (lean .entry)) m (now (list .entry)) (now (starts .entry))) ⌝ }
 {
     let mut mate = no_mates();
     let mut size: u64 = 0;
+    let mut looks: u64 = 0;
     let mut i: u8 = 0;
     while i < m {
-        let one = start_from(lean, m, list, starts, i, &mut mate);
-        size += one;
+        let visit = start_from(lean, m, list, starts, i, &mut mate);
+        size += long16(bit_of(visit.found));
+        looks += visit.looks;
         i += 1;
     }
-    size
+    Matching { size, looks }
 }

@@ -4,3 +4,10 @@ pub mod Greatest
 pub mod Start
 pub mod Swap
 pub mod Same
+pub mod Columns
+pub mod Visits
+pub mod Outcome
+pub mod Column
+pub mod Depth
+pub mod Searched
+pub mod Looks

@@ -1,5 +1,6 @@
 pub mod Checks
 pub mod Accepted
+pub mod Ascending
 pub mod Spared
 pub mod Capped
 pub mod OfList

@@ -6,4 +6,5 @@ pub mod Covers
 pub mod Exact
 pub mod Left
 pub mod Ending
+pub mod Looked
 pub mod Reached

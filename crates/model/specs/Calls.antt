@@ -1,4 +1,4 @@
--- Document 01, 'Refusal table' and 'The walk', with the two caps of document 02's request 5: what an opening, a run and a showing answer, in
+-- Document 01, 'Refusal table' and 'The walk', with document 02's requests 5 and 6: what an opening, a run and a showing answer, in
 -- the table's order of checks.
 -- Assumes nothing.
 use mathlib.Core.Bool.{Bool, true, false, not}
@@ -110,6 +110,7 @@ noRecord =
       nonzeros = 0;
       caps = bothCaps 0;
       tries = 0;
+      looks = 0;
       bestCount = 0;
       best = none;
       complete = false;
@@ -134,10 +135,10 @@ openCall m n nonzeros list caps =
 unfoldable pub completeNumber : Bool → ℕ
 completeNumber complete = bit complete
 
--- complete, or stopped otherwise
-unfoldable pub ended : Bool → RunAnswer
-ended true = run-answer.Complete
-ended false = run-answer.Stopped
+-- complete, or stopped otherwise, with the looks since the fresh search
+unfoldable pub ended : Bool → ℕ → RunAnswer
+ended true looks = run-answer.Complete looks
+ended false looks = run-answer.Stopped looks
 
 -- the record after an accepted run
 unfoldable pub ranRecord : Record → Pattern → ℕ → Record
@@ -147,7 +148,7 @@ ranRecord r P budget = walk (rulesOf P (r .caps)) budget r
 unfoldable pub ranAfter : Verdict → Search → Pattern → ℕ → Ran
 ranAfter Accepted s P budget =
     let r = ranRecord (recordOf s) P budget in
-    record { answer = ended (r .complete); search = searchOf r }
+    record { answer = ended (r .complete) (r .looks); search = searchOf r }
 ranAfter (Refused word place) s P budget =
     record { answer = run-answer.Refused word place; search = s }
 
@@ -211,10 +212,10 @@ unfoldable pub capReply : CapAnswer → Reply
 capReply (cap-answer.Capped cap rest) = given (cap ∷ rest ∷ [])
 capReply (cap-answer.Refused word place) = refusal word place
 
--- complete 0 or 1
+-- complete 0 or 1, and the looks
 unfoldable pub runReply : RunAnswer → Reply
-runReply run-answer.Complete = given (completeNumber true ∷ [])
-runReply run-answer.Stopped = given (completeNumber false ∷ [])
+runReply (run-answer.Complete looks) = given (completeNumber true ∷ looks ∷ [])
+runReply (run-answer.Stopped looks) = given (completeNumber false ∷ looks ∷ [])
 runReply (run-answer.Refused word place) = refusal word place
 
 -- volume and floor, or 255 and the floor for "none yet"
@@ -242,12 +243,16 @@ capReplies nonzeros percent =
     (capVerdict nonzeros percent)
     (given (capFromPercent nonzeros percent ∷ restFromPercent nonzeros percent ∷ []))
 
+-- what an accepted run replies, by the record after it
+unfoldable pub ranReply : Record → Reply
+ranReply r = given (completeNumber (r .complete) ∷ r .looks ∷ [])
+
 -- a run
 unfoldable pub runReplies : Search → ℕ → ℕ → ℕ → List ℕ → ℕ → Reply
 runReplies s m n nonzeros list budget =
     replyAfter
     (runVerdict (recordOf s) m n nonzeros list budget)
-    (given (completeNumber (ranRecord (recordOf s) (patternOf m n nonzeros list) budget .complete) ∷ []))
+    (ranReply (ranRecord (recordOf s) (patternOf m n nonzeros list) budget))
 
 -- a showing
 unfoldable pub showReplies : Search → ℕ → ℕ → ℕ → List ℕ → List ℕ → Reply

@@ -3,9 +3,11 @@ pub mod Pattern
 pub mod Split
 pub mod Marking
 pub mod Bound
+pub mod Matching
 pub mod Walk
 pub mod OneCap
 pub mod Refusal
 pub mod State
 pub mod Calls
 pub mod Samples
+pub mod SampleLooks

@@ -22,6 +22,6 @@ percentLimit = 100
 abbrev pub budgetLimit : ℕ
 budgetLimit = 1_000_000
 
--- tries of a search: at most this
+-- tries of a search: at most this, by document 02's request 6
 abbrev pub triesLimit : ℕ
-triesLimit = 10 ^ 15
+triesLimit = 10 ^ 13

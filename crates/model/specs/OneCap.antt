@@ -1,5 +1,5 @@
--- Document 01's walk as it stands there: one cap for both parts, and mark 1 only where some earlier mark is 0 or 1. With equal caps the walk is
--- this one.
+-- Document 01's walk as it stands there, with the looks of document 02's request 6: one cap for both parts, and mark 1 only where some earlier
+-- mark is 0 or 1. With equal caps the walk is this one.
 -- Assumes nothing.
 use mathlib.Core.Bool.{Bool, true, false, not}
 use mathlib.Core.List.{List, [], _∷_}
@@ -15,6 +15,7 @@ use Rattle.model.specs.Pattern.{Pattern, lineTotal}
 use Rattle.model.specs.Split.{bothCaps}
 use Rattle.model.specs.Marking.{Marking, markNumber, marking, takes, taken}
 use Rattle.model.specs.Bound.{L1, L2, L4, atStake, leaningCounts, strikes}
+use Rattle.model.specs.Matching.{looks}
 use Rattle.model.specs.Walk.{Record, freshOf, givesPart, tried, improved}
 
 -- valid: no nonzero is taken by both, and D0, D1 are at most the cap
@@ -44,16 +45,23 @@ advanceUnder (zero ∷ xs) = pick (givesPart xs) (markNumber (To One)) (markNumb
 advanceUnder (suc zero ∷ xs) = markNumber Cut ∷ xs
 advanceUnder (suc (suc x) ∷ xs) = advanceUnder xs
 
--- one try: stands, shorter than k: append 0; stands, of length k: it becomes the best marking, then advance; otherwise: advance
-unfoldable pub outcomeUnder : Bool → Bool → Record → Record
-outcomeUnder true true r = tried r (markNumber (To Zero) ∷ r .trail)
-outcomeUnder true false r = tried (improved r) (advanceUnder (r .trail))
-outcomeUnder false shorter r = tried r (advanceUnder (r .trail))
+-- the looks of a try: those of its trail's bound if it is valid
+unfoldable pub looksUnder : Pattern → ℕ → Record → ℕ
+looksUnder P cap r = pick (validUnder P cap (marking P (r .trail))) (looks P (marking P (r .trail))) 0
+
+-- one try with so many looks: stands, shorter than k: append 0; stands, of length k: it becomes the best marking, then advance; otherwise: advance
+unfoldable pub outcomeUnder : ℕ → Bool → Bool → Record → Record
+outcomeUnder looks true true r = tried looks r (markNumber (To Zero) ∷ r .trail)
+outcomeUnder looks true false r = tried looks (improved r) (advanceUnder (r .trail))
+outcomeUnder looks false shorter r = tried looks r (advanceUnder (r .trail))
 
 -- one try, or none on a complete search
 unfoldable pub stepUnder : Pattern → ℕ → Record → Record
 stepUnder P cap r =
-    pick (r .complete) r (outcomeUnder (standsUnder P cap r) (ltb (length (r .trail)) (lineTotal P)) r)
+    pick
+    (r .complete)
+    r
+    (outcomeUnder (looksUnder P cap r) (standsUnder P cap r) (ltb (length (r .trail)) (lineTotal P)) r)
 
 -- the walk after n tries from a fresh search
 unfoldable pub walkedUnder : Pattern → ℕ → ℕ → Record

@@ -4,7 +4,7 @@
 use mathlib.Core.Bool.{Bool, true, false}
 use mathlib.Core.List.{List, [], _∷_}
 use mathlib.Core.Path.{_≡_, refl}
-use Prim.Native.Nat.{ℕ, zero, suc, _+_, min}
+use Prim.Native.Nat.{ℕ, zero, suc, _+_, _-_, _^_, min}
 use lib.Dec.{eqb, leb}
 use lib.ListN.{getD, replicate}
 use Rattle.counting.specs.Tests.{_and_, _or_, pick, bit}
@@ -25,9 +25,10 @@ use Rattle.model.specs.Pattern.{Pattern, rowIn, columnIn, patternOf, lin
 use Rattle.model.specs.Split.{Split, holds, isCut, partsOn, volume, load, capsOf, bothCaps, unequal, capsOutside, ceilingHalf, capHundredths, capFromPercent, restFromPercent}
 use Rattle.model.specs.Marking.{Marking, precedes, place, markAt, marking, takes, taken, valid, touched, conditionFor, condition}
 use Rattle.model.specs.Bound.{saysLeaning, leans, L1, L2, L3, L4, untaken, atStake, untakenOn, falling, leaningCounts, strikes, struck, conflict, mostChosen, bound}
-use Rattle.model.specs.Walk.{rulesOf, fresh, freshOf, givesPart, oneAllowed, afterZero, advance, cuts, isEmpty, tried, improved, stands, outcome, tryOnce, step, walk, walked, putLater, beginningsLater, openMarkings, leastBound, floor, filled, shownSplit}
+use Rattle.model.specs.Matching.{columnsWhere, conflictOf, conflictColumns, looked, elseGo, through, withColumn, withMate, handOver, columnStep, columnWithin, startFrom, counted, startsFrom, matchingSearch, looks}
+use Rattle.model.specs.Walk.{Record, rulesOf, fresh, freshOf, givesPart, oneAllowed, afterZero, advance, cuts, isEmpty, tried, improved, looksAt, stands, outcome, tryOnce, step, walk, walked, putLater, beginningsLater, openMarkings, leastBound, floor, filled, shownSplit}
 use Rattle.model.specs.Refusal.{refusalCode, given, noneYet, refusal, replyAfter, verdictReply, replyCode, verdictCode, refuse, _then_, eachVerdict}
-use Rattle.model.specs.State.{stack, marksIn, bestIn, recordOf, arrayOf, trailOf, isFound, bestOr, searchOf, areMarks, onesAllowed, beginningsValid, trailFine, bestFine, stateFine}
+use Rattle.model.specs.State.{stack, marksIn, bestIn, recordOf, arrayOf, trailOf, isFound, bestOr, searchOf, areMarks, onesAllowed, beginningsValid, trailFine, bestFine, countsFine, stateFine}
 use Rattle.model.specs.Calls.{outside, sizesVerdict, rises, entryVerdict, listVerdict, openVerdict, runVerdict, showVerdict, capVerdict, capAfter, capCall, noRecord, openedAfter, openCall, ended, ranRecord, ranAfter, runCall, shownFrom, shown, partBytes, shownParts, shownAfter, partsAfter, showCall, showParts, completeNumber, capReply, runReply, showReply}
 
 -- part p for nonzero t, and another split's parts for the others
@@ -129,7 +130,7 @@ cornerMarking l = getD (3 ∷ 1 ∷ 0 ∷ 3 ∷ []) l 3
 
 -- to unfold this is to unfold every definition that a sample computes with
 computing : Type 0
-unfolding _and_ _or_ pick bit sum any rowIn columnIn patternOf lines rowLine columnLine on lineCount nonempty lineTotal holds isCut partsOn volume load unequal capsOutside ceilingHalf capHundredths capFromPercent restFromPercent precedes place markAt marking takes taken valid touched conditionFor condition saysLeaning leans L1 L2 L3 L4 untaken atStake untakenOn falling leaningCounts strikes struck conflict mostChosen bound rulesOf fresh givesPart oneAllowed afterZero advance cuts isEmpty tried improved stands outcome tryOnce step walk putLater beginningsLater openMarkings leastBound floor filled shownSplit refusalCode given noneYet refusal replyAfter verdictReply replyCode verdictCode refuse _then_ stack marksIn bestIn recordOf arrayOf trailOf isFound bestOr searchOf areMarks onesAllowed beginningsValid trailFine bestFine stateFine outside sizesVerdict rises entryVerdict eachVerdict listVerdict openVerdict runVerdict showVerdict capVerdict capAfter capCall freshOf noRecord openedAfter openCall ended ranRecord ranAfter runCall shownFrom shown partBytes shownParts shownAfter partsAfter showCall showParts completeNumber capReply runReply showReply withPart meets leastAmong leastVolume meetingAmong meeting walked standsAt showsParts
+unfolding _and_ _or_ pick bit sum any rowIn columnIn patternOf lines rowLine columnLine on lineCount nonempty lineTotal holds isCut partsOn volume load unequal capsOutside ceilingHalf capHundredths capFromPercent restFromPercent precedes place markAt marking takes taken valid touched conditionFor condition saysLeaning leans L1 L2 L3 L4 untaken atStake untakenOn falling leaningCounts strikes struck conflict mostChosen bound columnsWhere conflictOf conflictColumns looked elseGo through withColumn withMate handOver columnStep columnWithin startFrom counted startsFrom matchingSearch looks rulesOf fresh givesPart oneAllowed afterZero advance cuts isEmpty tried improved looksAt stands outcome tryOnce step walk putLater beginningsLater openMarkings leastBound floor filled shownSplit refusalCode given noneYet refusal replyAfter verdictReply replyCode verdictCode refuse _then_ stack marksIn bestIn recordOf arrayOf trailOf isFound bestOr searchOf areMarks onesAllowed beginningsValid trailFine bestFine countsFine stateFine outside sizesVerdict rises entryVerdict eachVerdict listVerdict openVerdict runVerdict showVerdict capVerdict capAfter capCall freshOf noRecord openedAfter openCall ended ranRecord ranAfter runCall shownFrom shown partBytes shownParts shownAfter partsAfter showCall showParts completeNumber capReply runReply showReply withPart meets leastAmong leastVolume meetingAmong meeting walked standsAt showsParts
 computing = Unit
 
 -- the samples marked P
@@ -263,6 +264,23 @@ unequalCaps =
       equal-first = refl;
     }
 
+-- request 6, rows .##, #.#, ##. and #..: a walk on which it shows whose looks are counted
+abbrev pub ring : Pattern
+ring = patternOf 4 3 7 (0 ∷ 1 ∷ 0 ∷ 2 ∷ 1 ∷ 0 ∷ 1 ∷ 2 ∷ 2 ∷ 0 ∷ 2 ∷ 1 ∷ 3 ∷ 0 ∷ [])
+
+pub record CountedLooks : Type 0 where
+  -- the looks of valid trails, standing or not, are 4; with those of a trail that is not valid they would be 5, those of trails that stand are 3
+  pub ring-ends : Stands ring (bothCaps 4) 100 true 25 (show-answer.Split 2 2)
+  pub ring-looks : walked ring (bothCaps 4) 25 .looks ≡ 4
+  -- and so they stay
+  pub ring-stays : walked ring (bothCaps 4) 26 .looks ≡ 4
+  -- those after fewer tries
+  pub ring-before : walked ring (bothCaps 4) 17 .looks ≡ 3
+
+pub countedLooks : CountedLooks
+unfolding computing
+countedLooks = record { ring-ends = refl; ring-looks = refl; ring-stays = refl; ring-before = refl }
+
 -- the diagonal, opened; run for 3 tries; run for 8 more
 abbrev pub opened : Search
 opened = openCall 2 2 2 diagonalList (bothCaps 1) .search
@@ -273,13 +291,30 @@ begun = runCall opened 2 2 2 diagonalList 3
 abbrev pub finished : Ran
 finished = runCall (begun .search) 2 2 2 diagonalList 8
 
+-- the record after 3 tries, with so many tries and looks
+abbrev pub counting : ℕ → ℕ → Record
+counting tries looks =
+    let r = recordOf (begun .search) in
+    record {
+      m = r .m;
+      n = r .n;
+      nonzeros = r .nonzeros;
+      caps = r .caps;
+      tries = tries;
+      looks = looks;
+      bestCount = r .bestCount;
+      best = r .best;
+      complete = r .complete;
+      trail = r .trail;
+    }
+
 -- what calls answer
 pub record CallSamples : Type 0 where
   -- the diagonal by calls, in pieces
-  pub begun-stopped : begun .answer ≡ run-answer.Stopped
+  pub begun-stopped : begun .answer ≡ run-answer.Stopped 0
   pub begun-shows : showCall (begun .search) 2 2 2 diagonalList (7 ∷ 7 ∷ []) ≡ NoneYet 0
   pub begun-parts : showParts (begun .search) 2 2 2 diagonalList (7 ∷ 7 ∷ []) ≡ 7 ∷ 7 ∷ []
-  pub finished-complete : finished .answer ≡ run-answer.Complete
+  pub finished-complete : finished .answer ≡ run-answer.Complete 0
   pub finished-tries : finished .search .tries ≡ 11
   pub finished-shows : showCall (finished .search) 2 2 2 diagonalList (7 ∷ 7 ∷ 7 ∷ []) ≡ show-answer.Split 0 0
   pub finished-parts : showParts (finished .search) 2 2 2 diagonalList (7 ∷ 7 ∷ 7 ∷ []) ≡ 0 ∷ 1 ∷ 7 ∷ []
@@ -289,6 +324,12 @@ pub record CallSamples : Type 0 where
   pub state-first : runCall (searchOf noRecord) 2 2 2 diagonalList 1000001 .answer ≡ run-answer.Refused State 0
   pub budget-taken : runVerdict (recordOf opened) 2 2 2 diagonalList 1000000 ≡ Accepted
   pub budget-refused : runVerdict (recordOf opened) 2 2 2 diagonalList 1000001 ≡ Refused Budget 0
+  -- at most 10^13 tries, and at most tries × m × N looks
+  pub tries-taken : runVerdict (counting (10 ^ 13 - 1) 12) 2 2 2 diagonalList 1 ≡ Accepted
+  pub tries-spent : runVerdict (counting (10 ^ 13) 12) 2 2 2 diagonalList 1 ≡ Refused Budget 0
+  pub tries-refused : runVerdict (counting (10 ^ 13 + 1) 12) 2 2 2 diagonalList 1 ≡ Refused State 0
+  pub looks-taken : runVerdict (counting 3 12) 2 2 2 diagonalList 1 ≡ Accepted
+  pub looks-refused : runVerdict (counting 3 13) 2 2 2 diagonalList 1 ≡ Refused State 0
   pub no-rows : listVerdict 0 2 2 diagonalList ≡ Refused TooBig 0
   pub rows-taken : sizesVerdict 120 120 2000 ≡ Accepted
   pub rows-refused : sizesVerdict 121 120 2000 ≡ Refused TooBig 0
@@ -309,7 +350,7 @@ pub record CallSamples : Type 0 where
   pub percent-too-big : capCall 2001 101 ≡ cap-answer.Refused TooBig 0
   -- what calls reply in numbers
   pub begun-reply : showReply (showCall (begun .search) 2 2 2 diagonalList (7 ∷ 7 ∷ [])) ≡ record { number = 255; place = 0; values = 0 ∷ [] }
-  pub finished-reply : runReply (finished .answer) ≡ record { number = 0; place = 0; values = 1 ∷ [] }
+  pub finished-reply : runReply (finished .answer) ≡ record { number = 0; place = 0; values = 1 ∷ 0 ∷ [] }
   pub percent-reply : capReply (capCall 233 3) ≡ record { number = 0; place = 0; values = 120 ∷ 51 ∷ [] }
   pub order-reply : verdictReply (listVerdict 2 2 2 (1 ∷ 1 ∷ 0 ∷ 0 ∷ [])) ≡ record { number = 10; place = 1; values = [] }
   pub order-code : verdictCode (listVerdict 2 2 2 (1 ∷ 1 ∷ 0 ∷ 0 ∷ [])) ≡ 266
@@ -330,6 +371,11 @@ callSamples =
       state-first = refl;
       budget-taken = refl;
       budget-refused = refl;
+      tries-taken = refl;
+      tries-spent = refl;
+      tries-refused = refl;
+      looks-taken = refl;
+      looks-refused = refl;
       no-rows = refl;
       rows-taken = refl;
       rows-refused = refl;

@@ -1,4 +1,4 @@
--- Document 01, 'Refusal table': when a state is refused (14), and how a search of the code holds a record of the walk.
+-- Document 01, 'Refusal table', with the looks of document 02's request 6: when a state is refused (14), and how a search of the code holds a record of the walk.
 -- Assumes nothing.
 use mathlib.Core.Bool.{Bool, true, false, not}
 use mathlib.Core.List.{List, [], _∷_}
@@ -44,6 +44,7 @@ recordOf s =
       nonzeros = s .nonzeros;
       caps = capsIn s;
       tries = s .tries;
+      looks = s .looks;
       bestCount = s .«best_count»;
       best = bestIn (s .found) (s .best);
       complete = s .complete;
@@ -79,6 +80,7 @@ searchOf r =
       cap0 = r .caps .cap0;
       cap1 = r .caps .cap1;
       tries = r .tries;
+      looks = r .looks;
       «best_count» = r .bestCount;
       found = isFound (r .best);
       best = trailOf (bestOr (r .best));
@@ -117,6 +119,10 @@ bestFine R (some τ) bestCount complete =
     eqb (length τ) (R .k) and areMarks τ and R .valid τ and eqb (cuts τ) bestCount
 bestFine R none bestCount complete = eqb bestCount (R .k + 1) and not complete
 
+-- tries in range, and looks at most tries × m × N
+unfoldable pub countsFine : ℕ → ℕ → ℕ → ℕ → Bool
+countsFine tries looks m nonzeros = leb tries triesLimit and leb looks (tries * m * nonzeros)
+
 -- a state that is not refused, with the m, n and N of a list
 unfoldable pub stateFine : Rules → ℕ → ℕ → ℕ → Record → Bool
 stateFine R m n nonzeros r =
@@ -125,6 +131,6 @@ stateFine R m n nonzeros r =
     and eqb (r .nonzeros) nonzeros
     and leb nonzeros (r .caps .cap0 + r .caps .cap1)
     and not (capsOutside (r .caps))
-    and leb (r .tries) triesLimit
+    and countsFine (r .tries) (r .looks) m nonzeros
     and trailFine R (r .complete) (r .trail)
     and bestFine R (r .best) (r .bestCount) (r .complete)

@@ -1,5 +1,5 @@
--- Document 01, 'The walk', with the two caps of document 02's request 5: the record, fresh, one try, advance, the walk after n tries, open
--- markings, floor and shown split. What the walk asks of a marking is a parameter, `Rules`; the paper's walk is the one with the rules of a
+-- Document 01, 'The walk', with the two caps of document 02's request 5 and the looks of its request 6: the record, fresh, one try, advance,
+-- the walk after n tries, open markings, floor and shown split. What the walk asks of a marking is a parameter, `Rules`; the paper's walk is the one with the rules of a
 -- pattern and its caps.
 -- Assumes nothing.
 use mathlib.Core.Bool.{Bool, true, false}
@@ -16,6 +16,7 @@ use Rattle.model.specs.Pattern.{Pattern, lineTotal}
 use Rattle.model.specs.Split.{Split, unequal}
 use Rattle.model.specs.Marking.{Marking, markNumber, marking, takes, taken, valid}
 use Rattle.model.specs.Bound.{bound, untaken}
+use Rattle.model.specs.Matching.{looks}
 
 -- the running search is one record; a marking is the list of its marks, the last first
 pub record Record : Type 0 where
@@ -24,17 +25,19 @@ pub record Record : Type 0 where
   pub nonzeros : ℕ
   pub caps : Caps
   pub tries : ℕ
+  pub looks : ℕ
   pub bestCount : ℕ
   pub best : Option (List ℕ)
   pub complete : Bool
   pub trail : List ℕ
 
--- what the walk asks of a marking: k, whether mark 1 is allowed before any 0, validity and the bound
+-- what the walk asks of a marking: k, whether mark 1 is allowed before any 0, validity, the bound and its looks
 pub record Rules : Type 0 where
   pub k : ℕ
   pub oneFirst : Bool
   pub valid : List ℕ → Bool
   pub bound : List ℕ → ℕ
+  pub looks : List ℕ → ℕ
 
 -- the rules of a pattern and its caps: with unequal caps mark 1 is allowed before any 0
 unfoldable pub rulesOf : Pattern → Caps → Rules
@@ -44,9 +47,10 @@ rulesOf P caps =
       oneFirst = unequal caps;
       valid = λ trail. valid P caps (marking P trail);
       bound = λ trail. bound P caps (marking P trail);
+      looks = λ trail. looks P (marking P trail);
     }
 
--- fresh: tries 0, best count k + 1, no best marking, trail [0]; if k = 0: complete, best count 0, empty trail and empty best marking
+-- fresh: tries 0, looks 0, best count k + 1, no best marking, trail [0]; if k = 0: complete, best count 0, empty trail and empty best marking
 unfoldable pub fresh : ℕ → ℕ → ℕ → Caps → ℕ → Record
 fresh m n nonzeros caps zero =
     record {
@@ -55,6 +59,7 @@ fresh m n nonzeros caps zero =
       nonzeros = nonzeros;
       caps = caps;
       tries = 0;
+      looks = 0;
       bestCount = 0;
       best = some [];
       complete = true;
@@ -67,6 +72,7 @@ fresh m n nonzeros caps (suc k) =
       nonzeros = nonzeros;
       caps = caps;
       tries = 0;
+      looks = 0;
       bestCount = suc k + 1;
       best = none;
       complete = false;
@@ -107,15 +113,16 @@ unfoldable pub cuts : List ℕ → ℕ
 cuts [] = 0
 cuts (x ∷ xs) = bit (eqb x (markNumber Cut)) + cuts xs
 
--- one try more, after which this trail is the next; the search is complete if it is empty
-unfoldable pub tried : Record → List ℕ → Record
-tried r next =
+-- one try more with so many looks, after which this trail is the next; the search is complete if it is empty
+unfoldable pub tried : ℕ → Record → List ℕ → Record
+tried looks r next =
     record {
       m = r .m;
       n = r .n;
       nonzeros = r .nonzeros;
       caps = r .caps;
       tries = r .tries + 1;
+      looks = r .looks + looks;
       bestCount = r .bestCount;
       best = r .best;
       complete = isEmpty next;
@@ -131,6 +138,7 @@ improved r =
       nonzeros = r .nonzeros;
       caps = r .caps;
       tries = r .tries;
+      looks = r .looks;
       bestCount = cuts (r .trail);
       best = some (r .trail);
       complete = r .complete;
@@ -141,11 +149,15 @@ improved r =
 unfoldable pub stands : Rules → Record → Bool
 stands R r = R .valid (r .trail) and ltb (R .bound (r .trail)) (r .bestCount)
 
+-- the looks of a try on a trail: those of its bound if it is valid, none if not
+unfoldable pub looksAt : Rules → List ℕ → ℕ
+looksAt R trail = pick (R .valid trail) (R .looks trail) 0
+
 -- what a try does to a trail that stands or not, shorter than k or of length k
 unfoldable pub outcome : Rules → Bool → Bool → Record → Record
-outcome R true true r = tried r (markNumber (To Zero) ∷ r .trail)
-outcome R true false r = tried (improved r) (advance (R .oneFirst) (r .trail))
-outcome R false shorter r = tried r (advance (R .oneFirst) (r .trail))
+outcome R true true r = tried (looksAt R (r .trail)) r (markNumber (To Zero) ∷ r .trail)
+outcome R true false r = tried (looksAt R (r .trail)) (improved r) (advance (R .oneFirst) (r .trail))
+outcome R false shorter r = tried (looksAt R (r .trail)) r (advance (R .oneFirst) (r .trail))
 
 -- one try
 unfoldable pub tryOnce : Rules → Record → Record

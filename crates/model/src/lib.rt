@@ -54,7 +54,7 @@ pub struct Caps {
     pub cap1: u64,
 }
 
-// The running search: the record of the walk. Without `found` there is no best marking.
+// The running search: the record of the walk, with the sum of the looks of its tries. Without `found` there is no best marking.
 pub struct Search {
     pub m: u64,
     pub n: u64,
@@ -62,6 +62,7 @@ pub struct Search {
     pub cap0: u64,
     pub cap1: u64,
     pub tries: u64,
+    pub looks: u64,
     pub best_count: u64,
     pub found: bool,
     pub best: Trail,
@@ -81,10 +82,10 @@ pub struct Opened {
     pub search: Search,
 }
 
-// How an accepted run ended, or a refusal.
+// How an accepted run ended, with the looks since the fresh search, or a refusal.
 pub enum RunAnswer {
-    Complete,
-    Stopped,
+    Complete { looks: u64 },
+    Stopped { looks: u64 },
     Refused(Word, u64),
 }
 

@@ -13,12 +13,12 @@ use Rattle.model.specs.declared.Ran.{Ran}
 use Rattle.model.specs.declared.Search.{Search}
 use Rattle.model.specs.Pattern.{patternOf}
 use Rattle.model.specs.Walk.{rulesOf}
-use Rattle.model.specs.State.{capsIn, recordOf, searchOf, stateFine}
+use Rattle.model.specs.State.{capsIn, recordOf, stateFine}
 use Rattle.model.specs.Calls.{listVerdict, runVerdict, ranAfter, runCall}
-use Rattle.state.specs.Holding.{normalOf}
-use Rattle.state.specs.Ready.{Ready, Fits}
-use Rattle.state.proofs.Accepting.{fine-normal, ready-fits}
+use Rattle.state.specs.Ready.{Ready}
+use Rattle.state.proofs.Accepting.{ready-fits, fine-looked}
 use Rattle.state.proofs.Checks.{stateThen, then-later, then-unfit, then-unlisted}
+use Rattle.search.specs.Trying.{Tryable}
 use Rattle.search.specs.Running.{budgetBy}
 use Rattle.search.proofs.Budgets.{ranBy, run-refused}
 
@@ -28,18 +28,28 @@ module _ (m n nonzeros : ℕ) (list : List ℕ) (budget : ℕ) (s : Search) wher
   unfolding runVerdict stateThen recordOf budgetBy
   run-checks = refl
 
-  -- a run on tables at hand, of a state that is not refused
-  pub run-ready :
-      (places starts : List ℕ) (k : ℕ) (a : Ran) →
-      listVerdict m n nonzeros list ≡ Accepted → Ready m n nonzeros list places starts k →
+  -- tries can be made on a state that is not refused
+  pub fine-tryable :
+      (places starts : List ℕ) (k : ℕ) → Ready m n nonzeros list places starts k →
       stateFine (rulesOf (patternOf m n nonzeros list) (capsIn s)) m n nonzeros (recordOf s) ≡ true →
-      (Ready m n nonzeros list places starts k → Fits k (recordOf s) → normalOf s ≡ searchOf (recordOf s) →
-      a ≡ ranAfter (budgetBy (s .tries) budget) s (patternOf m n nonzeros list) budget) →
+      Tryable m n nonzeros list places starts k s
+  unfolding recordOf
+  fine-tryable places starts k ready fine =
+      record {
+        ready = ready;
+        fits = ready-fits m n nonzeros list places starts k s ready fine;
+        looked = fine-looked (rulesOf (patternOf m n nonzeros list) (capsIn s)) m n nonzeros (recordOf s) fine .few;
+      }
+
+  -- a run of a state that is not refused
+  pub run-ready :
+      (a : Ran) → listVerdict m n nonzeros list ≡ Accepted →
+      stateFine (rulesOf (patternOf m n nonzeros list) (capsIn s)) m n nonzeros (recordOf s) ≡ true →
+      a ≡ ranAfter (budgetBy (s .tries) budget) s (patternOf m n nonzeros list) budget →
       a ≡ runCall s m n nonzeros list budget
   unfolding runCall
-  run-ready places starts k a listed ready fine ran =
-      let fits = ready-fits m n nonzeros list places starts k s ready fine in
-      ran ready fits (fine-normal s k (ready .few) fits)
+  run-ready a listed fine ran =
+      ran
       ∙ ap
       (λ (v : Verdict). ranAfter v s (patternOf m n nonzeros list) budget)
       (sym (run-checks ∙ then-later s m n nonzeros list (budgetBy (s .tries) budget) listed fine))

@@ -1,8 +1,9 @@
 -- Laws of a run by the verdict on its budget.
 -- Assumes nothing.
 use mathlib.Core.List.{List}
-use mathlib.Core.Path.{_≡_, refl, sym, _∙_, ap}
-use Prim.Native.Nat.{ℕ, _+_, _≤_, _<_}
+use mathlib.Core.Path.{_≡_, refl, sym, _∙_, ap, subst}
+use Prim.Native.Nat.{ℕ, _+_, _*_, _≤_, _<_}
+use native.Mathlib.Omega.{arith}
 use lib.Dec.{ltb}
 use borrow.Author.Tests.{lt-ltb, le-ltb, ltb-false}
 use Rattle.counting.specs.Tests.{_or_}
@@ -23,9 +24,11 @@ use Rattle.model.specs.State.{capsIn, recordOf, searchOf}
 use Rattle.model.specs.Calls.{ended, ranRecord, ranAfter}
 use Rattle.model.proofs.Theorems.Checks.{refuse-not, refuse-so, refuse-no}
 use Rattle.state.specs.Holding.{normalOf}
-use Rattle.state.specs.Ready.{Ready, Fits}
+use Rattle.state.specs.Ready.{Fits}
+use Rattle.state.proofs.Held.{record-back}
+use Rattle.state.proofs.Accepting.{fine-normal}
+use Rattle.search.specs.Trying.{Tryable}
 use Rattle.search.specs.Running.{budgetBy}
-use Rattle.search.proofs.Runs.{search-complete}
 
 -- the cases of 13
 pub budget-over : (tries budget : ℕ) → budgetLimit < budget → Refused Budget 0 ≡ budgetBy tries budget
@@ -66,22 +69,42 @@ record-caps : (s : Search) → recordOf s .caps ≡ capsIn s
 unfolding recordOf
 record-caps s = refl
 
--- an accepted run
-pub run-taken :
-    (rows columns size : ℕ) (list places starts : List ℕ) (k budget : ℕ) (s from after : Search) (answer : RunAnswer) (v : Verdict) →
-    v ≡ budgetBy (s .tries) budget → v ≡ Accepted → from ≡ normalOf s →
-    (Ready rows columns size list places starts k → (r : Record) → from ≡ searchOf r → Fits k r →
-    after ≡ searchOf (walk (rulesOf (patternOf rows columns size list) (capsIn from)) budget r)) →
-    answer ≡ ended (after .complete) →
-    Ready rows columns size list places starts k → Fits k (recordOf s) → normalOf s ≡ searchOf (recordOf s) →
-    ranBy answer after ≡ ranAfter (budgetBy (s .tries) budget) s (patternOf rows columns size list) budget
-unfolding ranAfter ranRecord
-run-taken rows columns size list places starts k budget s from after answer v e a f walks d ready fits normal =
-    let P = patternOf rows columns size list in
-    let w : after ≡ searchOf (walk (rulesOf P (recordOf s .caps)) budget (recordOf s)) = walks ready (recordOf s) (f ∙ normal) fits ∙ ap (λ (c : Caps). searchOf (walk (rulesOf P c) budget (recordOf s))) (normal-caps s from f ∙ sym (record-caps s)) in
-    ap (λ (x : RunAnswer). ranBy x after) (d ∙ ap ended (ap (λ (x : Search). x .complete) w ∙ search-complete (walk (rulesOf P (recordOf s .caps)) budget (recordOf s))))
-    ∙ ap (ranBy (ended (walk (rulesOf P (recordOf s .caps)) budget (recordOf s) .complete))) w
-    ∙ ap (λ (x : Verdict). ranAfter x s P budget) (sym a ∙ e)
+module _ (rows columns size : ℕ) (list places starts : List ℕ) (k : ℕ) (s from : Search) (t : Tryable rows columns size list places starts k s) (f : from ≡ normalOf s) where
+  -- a cleared search is that of its record
+  is-record : from ≡ searchOf (recordOf s)
+  is-record = f ∙ fine-normal s k (t .ready .few) (t .fits)
+
+  same-record : recordOf from ≡ recordOf s
+  same-record =
+      ap recordOf is-record
+      ∙ record-back (recordOf s) (omega (arith, t .fits .trail-fits, t .ready .few)) (λ τ e. omega (arith, t .fits .best-fits τ e, t .ready .few))
+
+  -- and tries can be made on it
+  pub from-held : from ≡ searchOf (recordOf from)
+  from-held = is-record ∙ ap searchOf (sym same-record)
+
+  pub from-tryable : Tryable rows columns size list places starts k from
+  unfolding normalOf
+  from-tryable =
+      record {
+        ready = t .ready;
+        fits = subst (λ (r : Record). Fits k r) (sym same-record) (t .fits);
+        looked = subst (λ (x : Search). x .looks ≤ x .tries * (rows * size)) (sym f) (t .looked);
+      }
+
+  -- an accepted run
+  pub run-taken :
+      (budget : ℕ) (after : Search) (answer : RunAnswer) (v : Verdict) → v ≡ budgetBy (s .tries) budget → v ≡ Accepted →
+      after ≡ searchOf (walk (rulesOf (patternOf rows columns size list) (capsIn from)) budget (recordOf from)) →
+      answer ≡ ended (after .complete) (after .looks) →
+      ranBy answer after ≡ ranAfter (budgetBy (s .tries) budget) s (patternOf rows columns size list) budget
+  unfolding ranAfter ranRecord searchOf
+  run-taken budget after answer v e a walks d =
+      let P = patternOf rows columns size list in
+      let w : after ≡ searchOf (walk (rulesOf P (recordOf s .caps)) budget (recordOf s)) = walks ∙ ap (λ (c : Caps). searchOf (walk (rulesOf P c) budget (recordOf from))) (normal-caps s from f ∙ sym (record-caps s)) ∙ ap (λ (r : Record). searchOf (walk (rulesOf P (recordOf s .caps)) budget r)) same-record in
+      ap (λ (x : RunAnswer). ranBy x after) d
+      ∙ ap (λ (x : Search). ranBy (ended (x .complete) (x .looks)) x) w
+      ∙ ap (λ (x : Verdict). ranAfter x s P budget) (sym a ∙ e)
 
 -- a refused one
 pub run-refused :

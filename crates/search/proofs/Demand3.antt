@@ -35,10 +35,10 @@ use Rattle.search.proofs.Points.{walked-back, walked-caps, walked-runs,
 use Rattle.search.proofs.Wanting.{accepts-exactly, refuses-exactly}
 
 -- an accepted run's budget counts, and a refused one's does not
-pub ended-budget : (done : Bool) (budget : ℕ) → acceptedBudget (ended done) budget ≡ budget
+pub ended-budget : (done : Bool) (looks budget : ℕ) → acceptedBudget (ended done looks) budget ≡ budget
 unfolding acceptedBudget ended
-ended-budget true budget = refl
-ended-budget false budget = refl
+ended-budget true looks budget = refl
+ended-budget false looks budget = refl
 
 refused-budget : (word : Word) (place budget : ℕ) → acceptedBudget (run-answer.Refused word place) budget ≡ 0
 unfolding acceptedBudget
@@ -92,7 +92,7 @@ module _ (m n nonzeros : ℕ) (list : List ℕ) (caps : Caps) (accepted : openVe
   unfolding ranAfter
   run-keeps handed s total budget k Accepted e =
       kept-total
-      (ap (total +_) (sym (ended-budget (ranRecord (recordOf s) P budget .complete) budget)))
+      (ap (total +_) (sym (ended-budget (ranRecord (recordOf s) P budget .complete) (ranRecord (recordOf s) P budget .looks) budget)))
       (record {
         same = ap searchOf (search-runs s total budget k);
         limit = omega (arith, walked-more total budget, run-limit handed total budget e);

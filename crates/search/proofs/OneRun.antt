@@ -110,12 +110,15 @@ module _ (m n nonzeros : ℕ) (list : List ℕ) (caps : Caps) (budget : ℕ) (op
 
   -- with one in its range the run is accepted
   module _ (within : budget ≤ budgetLimit) where
-    pub run-ended : Run .answer ≡ ended (ranRecord (recordOf (openCall m n nonzeros list caps .search)) P budget .complete)
+    abbrev pub End : Record
+    End = ranRecord (recordOf (openCall m n nonzeros list caps .search)) P budget
+
+    pub run-ended : Run .answer ≡ ended (End .complete) (End .looks)
     unfolding ranAfter
     run-ended = ap (λ (a : Ran). a .answer) (run-is Accepted (budget-taken _ budget within (omega (arith, opened-none m n nonzeros list caps opens))))
 
     counts : acceptedBudget (Run .answer) budget ≡ budget
-    counts = ap (λ (a : RunAnswer). acceptedBudget a budget) run-ended ∙ ended-budget _ budget
+    counts = ap (λ (a : RunAnswer). acceptedBudget a budget) run-ended ∙ ended-budget _ _ budget
 
     pub at-end : Demand m n nonzeros list caps (Run .search) budget
     at-end =

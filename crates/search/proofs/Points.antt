@@ -25,7 +25,7 @@ use Rattle.model.proofs.Order.RulesSound.{rules-sound}
 use Rattle.model.proofs.Theorems.Checks.{then-first, then-second, refuse-not}
 use Rattle.model.proofs.Theorems.Accepted.{ListFine, list-accepted, accepted-inside, OpenFine, open-accepted}
 use Rattle.model.proofs.Theorems.Least.{floor-below-volume, shown-within, complete-least}
-use Rattle.model.proofs.Theorems.Ends.{mostTries, walked-tries, walked-adds, walked-fine}
+use Rattle.model.proofs.Theorems.Ends.{mostTries, walked-tries, walked-looks, walked-looks-fit, walked-adds, walked-fine}
 use Rattle.model.proofs.Alike.Patterns.{Alike}
 use Rattle.state.proofs.Held.{record-back, few-lines}
 use Rattle.search.specs.History.{Handed, runTable, showTable}
@@ -153,6 +153,8 @@ module _ (m n nonzeros : ℕ) (list : List ℕ) (caps : Caps) (accepted : openVe
         fine = walked-fine P caps total inside enough (open-fine .caps-to) limit;
         tries-ends = walked-tries P caps total;
         tries-limit = limit;
+        looks-most = walked-looks P caps total inside;
+        looks-fit = walked-looks-fit P caps total inside (list-fine .rows-to) (list-fine .size-to) limit;
       }
     where
       back : recordOf s ≡ walked P caps total

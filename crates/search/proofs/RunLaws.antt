@@ -2,9 +2,10 @@
 -- Assumes nothing.
 use mathlib.Core.Bool.{false, not}
 use mathlib.Core.List.{List}
-use mathlib.Core.Logic.{_⊎_, inl, inr, ⊎-elim}
+use mathlib.Core.Logic.{inl, inr, ⊎-elim}
 use mathlib.Core.Path.{_≡_, refl, sym, _∙_, ap, subst}
-use Prim.Native.Nat.{ℕ, _+_, _≤_}
+use Prim.Native.Nat.{ℕ, _+_, _*_, _≤_}
+use native.Mathlib.Omega.{arith}
 use lib.Dec.{ltb}
 use borrow.Author.Tests.{ltb-false, not-false}
 use Rattle.counting.specs.Tests.{_and_}
@@ -13,67 +14,106 @@ use Rattle.model.specs.declared.Caps.{Caps}
 use Rattle.model.specs.declared.Search.{Search}
 use Rattle.model.specs.Pattern.{patternOf}
 use Rattle.model.specs.Walk.{Record, Rules, rulesOf, tryOnce, walk}
-use Rattle.model.specs.State.{capsIn, searchOf}
+use Rattle.model.specs.State.{capsIn, recordOf, searchOf}
+use Rattle.model.proofs.Walk.Ending.{walk-counts}
+use Rattle.model.proofs.Walk.Looked.{walk-looked}
+use Rattle.model.proofs.Theorems.Ends.{rules-looks}
 use Rattle.model.proofs.Theorems.OfList.{rules-k}
-use Rattle.state.specs.Ready.{Ready, Fits}
+use Rattle.state.specs.Ready.{Fits}
+use Rattle.state.proofs.Held.{record-back}
+use Rattle.search.specs.Trying.{Tryable}
 use Rattle.search.proofs.Runs.{walk-fits, walk-more, walk-done, walk-caps, search-caps, search-complete}
 
 -- s is the search after so many tries from s₀
-abbrev pub Walks : ℕ → ℕ → ℕ → List ℕ → List ℕ → List ℕ → ℕ → Search → ℕ → Search → Type 0
-Walks m n nonzeros list places starts k s₀ i s =
-    Ready m n nonzeros list places starts k → (r : Record) → s₀ ≡ searchOf r → Fits k r →
-    s ≡ searchOf (walk (rulesOf (patternOf m n nonzeros list) (capsIn s₀)) i r)
+abbrev pub Walks : ℕ → ℕ → ℕ → List ℕ → Search → ℕ → Search → Type 0
+Walks m n nonzeros list s₀ i s =
+    s ≡ searchOf (walk (rulesOf (patternOf m n nonzeros list) (capsIn s₀)) i (recordOf s₀))
 
 walk-none : (R : Rules) (r : Record) → walk R 0 r ≡ r
 unfolding walk
 walk-none R r = refl
 
-module _ (m n nonzeros : ℕ) (list places starts : List ℕ) (k : ℕ) (s₀ : Search) where
+module _ (m n nonzeros : ℕ) (list places starts : List ℕ) (k : ℕ) (s₀ : Search) (held : s₀ ≡ searchOf (recordOf s₀)) (t₀ : Tryable m n nonzeros list places starts k s₀) where
+  abbrev R : Rules
+  R = rulesOf (patternOf m n nonzeros list) (capsIn s₀)
+
+  abbrev at : ℕ → Record
+  at i = walk R i (recordOf s₀)
+
   -- before the first try
-  pub run-start : Walks m n nonzeros list places starts k s₀ 0 s₀
-  run-start ready r e f = e ∙ ap searchOf (sym (walk-none (rulesOf (patternOf m n nonzeros list) (capsIn s₀)) r))
+  pub run-start : Walks m n nonzeros list s₀ 0 s₀
+  run-start = held ∙ ap searchOf (sym (walk-none R (recordOf s₀)))
 
   -- the walk's record fits
-  fits-on :
-      (i : ℕ) → Ready m n nonzeros list places starts k → (r : Record) → Fits k r →
-      Fits k (walk (rulesOf (patternOf m n nonzeros list) (capsIn s₀)) i r)
-  fits-on i ready r f =
-      let R = rulesOf (patternOf m n nonzeros list) (capsIn s₀) in
-      let e : R .k ≡ k = rules-k (patternOf m n nonzeros list) (capsIn s₀) ∙ sym (ready .total) in
-      subst (λ (j : ℕ). Fits j (walk R i r)) e (walk-fits R i r (subst (λ (j : ℕ). Fits j r) (sym e) f))
+  fits-on : (i : ℕ) → Fits k (at i)
+  fits-on i =
+      let e : R .k ≡ k = rules-k (patternOf m n nonzeros list) (capsIn s₀) ∙ sym (t₀ .ready .total) in
+      subst (λ (j : ℕ). Fits j (at i)) e (walk-fits R i (recordOf s₀) (subst (λ (j : ℕ). Fits j (recordOf s₀)) (sym e) (t₀ .fits)))
+
+  -- and reads back
+  back : (i : ℕ) → recordOf (searchOf (at i)) ≡ at i
+  back i =
+      let f = fits-on i in
+      record-back (at i) (omega (arith, f .trail-fits, t₀ .ready .few)) (λ τ e. omega (arith, f .best-fits τ e, t₀ .ready .few))
+
+  at-caps : (i : ℕ) → capsIn (searchOf (at i)) ≡ capsIn s₀
+  unfolding recordOf
+  at-caps i = search-caps (at i) ∙ walk-caps R i (recordOf s₀)
+
+  at-looked : (i : ℕ) → searchOf (at i) .looks ≤ searchOf (at i) .tries * (m * nonzeros)
+  unfolding searchOf recordOf patternOf
+  at-looked i =
+      walk-looked R (rules-looks (patternOf m n nonzeros list) (capsIn s₀) (t₀ .ready .listed .inside)) i (recordOf s₀) (record { few = t₀ .looked }) .few
+
+  at-tries : (i : ℕ) → searchOf (at i) .tries ≤ s₀ .tries + i
+  unfolding searchOf recordOf
+  at-tries i = walk-counts R i (recordOf s₀)
+
+  -- further tries can be made on it
+  at-tryable : (i : ℕ) → Tryable m n nonzeros list places starts k (searchOf (at i))
+  at-tryable i =
+      record {
+        ready = t₀ .ready;
+        fits = subst (λ (r : Record). Fits k r) (sym (back i)) (fits-on i);
+        looked = at-looked i;
+      }
+
+  pub run-on :
+      (i : ℕ) (s : Search) → Walks m n nonzeros list s₀ i s →
+      (s .tries ≤ s₀ .tries + i) × (s ≡ searchOf (recordOf s)) × Tryable m n nonzeros list places starts k s
+  run-on i s h =
+      subst
+      (λ (x : Search). (x .tries ≤ s₀ .tries + i) × (x ≡ searchOf (recordOf x)) × Tryable m n nonzeros list places starts k x)
+      (sym h)
+      (at-tries i, ap searchOf (sym (back i)), at-tryable i)
 
   -- one try more
   pub run-more :
-      (i : ℕ) (s t : Search) → Walks m n nonzeros list places starts k s₀ i s → s .complete ≡ false →
-      (Ready m n nonzeros list places starts k → (r : Record) → s ≡ searchOf r → Fits k r →
-      t ≡ searchOf (tryOnce (rulesOf (patternOf m n nonzeros list) (capsIn s)) r)) →
-      Walks m n nonzeros list places starts k s₀ (i + 1) t
-  run-more i s t h going tries ready r e f =
-      let R = rulesOf (patternOf m n nonzeros list) (capsIn s₀) in
-      let at = walk R i r in
-      let now = h ready r e f in
-      let same : capsIn s ≡ capsIn s₀ = ap capsIn now ∙ search-caps at ∙ walk-caps R i r ∙ sym (search-caps r) ∙ ap capsIn (sym e) in
-      tries ready at now (fits-on i ready r f)
-      ∙ ap (λ (c : Caps). searchOf (tryOnce (rulesOf (patternOf m n nonzeros list) c) at)) same
-      ∙ ap searchOf (walk-more R i r (sym (ap (λ (x : Search). x .complete) now ∙ search-complete at) ∙ going))
+      (i : ℕ) (s t : Search) → Walks m n nonzeros list s₀ i s → s .complete ≡ false →
+      t ≡ searchOf (tryOnce (rulesOf (patternOf m n nonzeros list) (capsIn s)) (recordOf s)) →
+      Walks m n nonzeros list s₀ (i + 1) t
+  run-more i s t h going tries =
+      tries
+      ∙ ap (λ (x : Search). searchOf (tryOnce (rulesOf (patternOf m n nonzeros list) (capsIn x)) (recordOf x))) h
+      ∙ ap (λ (c : Caps). searchOf (tryOnce (rulesOf (patternOf m n nonzeros list) c) (recordOf (searchOf (at i))))) (at-caps i)
+      ∙ ap (λ (r : Record). searchOf (tryOnce R r)) (back i)
+      ∙ ap searchOf (walk-more R i (recordOf s₀) (sym (ap (λ (x : Search). x .complete) h ∙ search-complete (at i)) ∙ going))
 
   -- the end of a run
   pub run-end :
-      (i budget : ℕ) (s : Search) → Walks m n nonzeros list places starts k s₀ i s → i ≤ budget →
-      not (s .complete) and ltb i budget ≡ false → Walks m n nonzeros list places starts k s₀ budget s
-  run-end i budget s h b stop ready r e f =
-      let R = rulesOf (patternOf m n nonzeros list) (capsIn s₀) in
-      let now = h ready r e f in
-      now
+      (i budget : ℕ) (s : Search) → Walks m n nonzeros list s₀ i s → i ≤ budget →
+      not (s .complete) and ltb i budget ≡ false → Walks m n nonzeros list s₀ budget s
+  run-end i budget s h b stop =
+      h
       ∙ ap
       searchOf
       (walk-done
       R
       i
       budget
-      r
+      (recordOf s₀)
       b
       (⊎-elim
-      (λ done. inr (sym (ap (λ (x : Search). x .complete) now ∙ search-complete (walk R i r)) ∙ not-false (s .complete) done))
+      (λ done. inr (sym (ap (λ (x : Search). x .complete) h ∙ search-complete (at i)) ∙ not-false (s .complete) done))
       (λ spent. inl (ltb-false i budget spent))
       (and-cases (not (s .complete)) (ltb i budget) stop)))

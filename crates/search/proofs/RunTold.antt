@@ -1,8 +1,7 @@
 -- What a run answered, read off the equation that it meets, by the table's verdict.
 -- Assumes nothing.
 use mathlib.Core.Bool.{Bool, true, false}
-use mathlib.Core.List.{[], _∷_}
-use mathlib.Core.Path.{_≡_, refl, sym, _∙_, ap, subst}
+use mathlib.Core.Path.{_≡_, refl, sym, subst}
 use Prim.Native.Nat.{ℕ}
 use Rattle.counting.proofs.Joined.{never}
 use Rattle.model.specs.declared.Verdict.{Verdict}
@@ -10,59 +9,58 @@ use Rattle.model.specs.declared.Verdict.the-variants.{Accepted, Refused}
 use Rattle.model.specs.declared.Search.{Search}
 use Rattle.model.specs.declared.Ran.{Ran}
 use Rattle.model.specs.declared.RunAnswer.the-variants as run-answer
-use Rattle.model.specs.Refusal.{given, replyAfter}
 use Rattle.model.specs.Pattern.{Pattern}
 use Rattle.model.specs.Walk.{Record}
 use Rattle.model.specs.State.{recordOf}
-use Rattle.model.specs.Calls.{ended, completeNumber, ranRecord, ranAfter}
+use Rattle.model.specs.Calls.{ended, ranRecord, ranAfter}
 use Rattle.model.proofs.Theorems.Replies.{run-by-verdict}
 use Rattle.model.proofs.Theorems.Refusals.{ended-not}
 use Rattle.search.specs.Demand.{RunAnswered}
 
--- a run that ended says whether it is complete
-ended-complete : (done : Bool) → ended done ≡ run-answer.Complete → done ≡ true
+-- a run that ended says whether it is complete, and its looks
+ended-complete : (done : Bool) (looks told : ℕ) → ended done looks ≡ run-answer.Complete told → (done ≡ true) × (looks ≡ told)
 unfolding ended
-ended-complete true e = refl
-ended-complete false e = never (cc)
+ended-complete true looks told e = (refl, cc)
+ended-complete false looks told e = never (cc)
 
-ended-stopped : (done : Bool) → ended done ≡ run-answer.Stopped → done ≡ false
+ended-stopped : (done : Bool) (looks told : ℕ) → ended done looks ≡ run-answer.Stopped told → (done ≡ false) × (looks ≡ told)
 unfolding ended
-ended-stopped true e = never (cc)
-ended-stopped false e = refl
+ended-stopped true looks told e = never (cc)
+ended-stopped false looks told e = (refl, cc)
 
-complete-ended : (done : Bool) → done ≡ true → ended done ≡ run-answer.Complete
+complete-ended : (done : Bool) (looks told : ℕ) → done ≡ true → looks ≡ told → ended done looks ≡ run-answer.Complete told
 unfolding ended
-complete-ended done e = rw e
+complete-ended done looks told e f = rw (e, f)
 
-stopped-ended : (done : Bool) → done ≡ false → ended done ≡ run-answer.Stopped
+stopped-ended : (done : Bool) (looks told : ℕ) → done ≡ false → looks ≡ told → ended done looks ≡ run-answer.Stopped told
 unfolding ended
-stopped-ended done e = rw e
+stopped-ended done looks told e f = rw (e, f)
 
 -- what a run answered
-run-answered :
-    (v : Verdict) (s : Search) (P : Pattern) (budget : ℕ) (after : Record) →
-    ranRecord (recordOf s) P budget .complete ≡ after .complete → RunAnswered v after s (ranAfter v s P budget)
+run-answered : (v : Verdict) (s : Search) (P : Pattern) (budget : ℕ) → RunAnswered v (ranRecord (recordOf s) P budget) s (ranAfter v s P budget)
 unfolding ranAfter
-run-answered Accepted s P budget after e =
-    let done = ranRecord (recordOf s) P budget .complete in
+run-answered Accepted s P budget =
+    let r = ranRecord (recordOf s) P budget in
     record {
-      refused = λ word place. ((λ a. ended-not done word place a), (λ a. never (cc)));
-      unchanged = λ word place a. ended-not done word place a;
-      complete = ((λ a. (refl, sym e ∙ ended-complete done a)), (λ w. complete-ended done (e ∙ w .1)));
-      stopped = ((λ a. (refl, sym e ∙ ended-stopped done a)), (λ w. stopped-ended done (e ∙ w .1)));
-      reply =
-          run-by-verdict Accepted s P budget
-          ∙ ap (λ (b : Bool). replyAfter Accepted (given (completeNumber b ∷ []))) e;
+      refused = λ word place. ((λ a. ended-not (r .complete) (r .looks) word place a), (λ a. never (cc)));
+      unchanged = λ word place a. ended-not (r .complete) (r .looks) word place a;
+      complete = λ looks. (
+        (λ a. let told = ended-complete (r .complete) (r .looks) looks a in (refl, told .0, told .1)),
+        (λ w. complete-ended (r .complete) (r .looks) looks (w .1) (w .2)),
+      );
+      stopped = λ looks. (
+        (λ a. let told = ended-stopped (r .complete) (r .looks) looks a in (refl, told .0, told .1)),
+        (λ w. stopped-ended (r .complete) (r .looks) looks (w .1) (w .2)),
+      );
+      reply = run-by-verdict Accepted s P budget;
     }
-run-answered (Refused word place) s P budget after e =
+run-answered (Refused word place) s P budget =
     record {
       refused = λ w p. ((λ a. cc), (λ a. cc));
       unchanged = λ w p a. refl;
-      complete = ((λ a. never (cc)), (λ w. never (cc)));
-      stopped = ((λ a. never (cc)), (λ w. never (cc)));
-      reply =
-          run-by-verdict (Refused word place) s P budget
-          ∙ ap (λ (b : Bool). replyAfter (Refused word place) (given (completeNumber b ∷ []))) e;
+      complete = λ looks. ((λ a. never (cc)), (λ w. never (cc)));
+      stopped = λ looks. ((λ a. never (cc)), (λ w. never (cc)));
+      reply = run-by-verdict (Refused word place) s P budget;
     }
 
 pub run-tells :
@@ -72,4 +70,4 @@ run-tells v s P budget after answer is e =
     subst
     (λ (a : Ran). RunAnswered v after s a)
     (sym is)
-    (run-answered v s P budget after (ap (λ (r : Record). r .complete) e))
+    (subst (λ (r : Record). RunAnswered v r s (ranAfter v s P budget)) e (run-answered v s P budget))

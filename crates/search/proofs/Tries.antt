@@ -7,7 +7,7 @@ use Prim.Native.Nat.{ℕ, _+_, _≤_, _<_}
 use lib.ListN.{length}
 use Rattle.trail.specs.Trail.{advanced}
 use Rattle.model.specs.declared.Search.{Search}
-use Rattle.model.specs.Walk.{Record, Rules, cuts, advance, tried, improved, outcome}
+use Rattle.model.specs.Walk.{Record, Rules, cuts, advance, tried, improved, looksAt, outcome}
 use Rattle.model.specs.State.{arrayOf, trailOf, isFound, bestOr, searchOf}
 use Rattle.marking.proofs.Trails.{appended-is, advanced-is}
 use Rattle.state.specs.Legal.{cutsIn}
@@ -21,9 +21,9 @@ unfolding trailOf
 cuts-of τ b = cuts-is (trailOf τ) b ∙ ap cuts (marks-back τ b)
 
 -- one try more on the search of a record
-pub tried-is : (r : Record) (τ : List ℕ) → triedTo (searchOf r) (trailOf τ) ≡ searchOf (tried r τ)
+pub tried-is : (looks : ℕ) (r : Record) (τ : List ℕ) → triedTo looks (searchOf r) (trailOf τ) ≡ searchOf (tried looks r τ)
 unfolding triedTo searchOf tried trailOf
-tried-is r τ =
+tried-is looks r τ =
     λ i. record {
       m = r .m;
       n = r .n;
@@ -31,6 +31,7 @@ tried-is r τ =
       cap0 = r .caps .cap0;
       cap1 = r .caps .cap1;
       tries = r .tries + 1;
+      looks = r .looks + looks;
       «best_count» = r .bestCount;
       found = isFound (r .best);
       best = trailOf (bestOr (r .best));
@@ -49,6 +50,7 @@ improved-is r b =
       cap0 = r .caps .cap0;
       cap1 = r .caps .cap1;
       tries = r .tries;
+      looks = r .looks;
       «best_count» = cuts-of (r .trail) b i;
       found = true;
       best = trailOf (r .trail);
@@ -59,34 +61,24 @@ improved-is r b =
 -- what a try does to the search of a record
 pub outcome-is :
     (R : Rules) (stands shorter : Bool) (r : Record) → length (r .trail) ≤ 240 → (shorter ≡ true → length (r .trail) < 240) →
-    outcomeBy (R .oneFirst) stands shorter (searchOf r) ≡ searchOf (outcome R stands shorter r)
+    outcomeBy (looksAt R (r .trail)) (R .oneFirst) stands shorter (searchOf r) ≡ searchOf (outcome R stands shorter r)
 unfolding outcomeBy outcome searchOf
 outcome-is R true true r b room =
-    ap (triedTo (searchOf r)) (appended-is 0 (r .trail) (room refl)) ∙ tried-is r (0 ∷ r .trail)
+    ap (triedTo (looksAt R (r .trail)) (searchOf r)) (appended-is 0 (r .trail) (room refl)) ∙ tried-is _ r (0 ∷ r .trail)
 outcome-is R true false r b room =
-    ap (λ (s : Search). triedTo s (advanced (R .oneFirst) (trailOf (r .trail)))) (improved-is r b)
-    ∙ ap (triedTo (searchOf (improved r))) (advanced-is (R .oneFirst) (r .trail) b)
-    ∙ tried-is (improved r) (advance (R .oneFirst) (r .trail))
+    ap (λ (s : Search). triedTo (looksAt R (r .trail)) s (advanced (R .oneFirst) (trailOf (r .trail)))) (improved-is r b)
+    ∙ ap (triedTo (looksAt R (r .trail)) (searchOf (improved r))) (advanced-is (R .oneFirst) (r .trail) b)
+    ∙ tried-is _ (improved r) (advance (R .oneFirst) (r .trail))
 outcome-is R false shorter r b room =
-    ap (triedTo (searchOf r)) (advanced-is (R .oneFirst) (r .trail) b) ∙ tried-is r (advance (R .oneFirst) (r .trail))
+    ap (triedTo (looksAt R (r .trail)) (searchOf r)) (advanced-is (R .oneFirst) (r .trail) b)
+    ∙ tried-is _ r (advance (R .oneFirst) (r .trail))
 
 -- what a try does, by what its tests come to
 pub outcome-by :
-    {up short : Bool} (first u t : Bool) (s : Search) → up ≡ u → short ≡ t → outcomeBy first u t s ≡ outcomeBy first up short s
-outcome-by first u t s e f = λ i. outcomeBy first (sym e i) (sym f i) s
+    {up short : Bool} (looks : ℕ) (first u t : Bool) (s : Search) → up ≡ u → short ≡ t → outcomeBy looks first u t s ≡ outcomeBy looks first up short s
+outcome-by looks first u t s e f = λ i. outcomeBy looks first (sym e i) (sym f i) s
 
--- a better marking makes no try
-pub improved-tries : (s t : Search) → t ≡ improvedBy s → t .tries ≡ s .tries
+-- a better marking makes no try and no look
+pub improved-counts : (s t : Search) → t ≡ improvedBy s → (t .tries ≡ s .tries) × (t .looks ≡ s .looks)
 unfolding improvedBy
-improved-tries s t e = ap (λ (x : Search). x .tries) e
-
--- a try counts
-counts-one : (first stands shorter : Bool) (s : Search) → outcomeBy first stands shorter s .tries ≡ s .tries + 1
-unfolding outcomeBy triedTo improvedBy
-counts-one first true true s = refl
-counts-one first true false s = refl
-counts-one first false shorter s = refl
-
-pub outcome-tries :
-    (first stands shorter : Bool) (s r : Search) → r ≡ outcomeBy first stands shorter s → r .tries ≡ s .tries + 1
-outcome-tries first stands shorter s r e = ap (λ (x : Search). x .tries) e ∙ counts-one first stands shorter s
+improved-counts s t e = (ap (λ (x : Search). x .tries) e, ap (λ (x : Search). x .looks) e)

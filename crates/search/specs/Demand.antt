@@ -1,11 +1,11 @@
 -- Demand 3: what is claimed of every history, at each of its points and for what each call answered.
 -- Assumes nothing.
 use mathlib.Core.Bool.{true, false}
-use mathlib.Core.List.{List, [], _∷_}
+use mathlib.Core.List.{List}
 use mathlib.Core.Logic.{_↔_}
 use mathlib.Core.Option.{some, none}
 use mathlib.Core.Path.{_≡_}
-use Prim.Native.Nat.{ℕ, _+_, _^_, _-_, _/_, _≤_, _<_}
+use Prim.Native.Nat.{ℕ, _+_, _*_, _^_, _-_, _/_, _≤_, _<_}
 use lib.ListN.{length, getD}
 use Rattle.model.specs.declared.Word.{Word}
 use Rattle.model.specs.declared.Word.the-variants.{NoSplit}
@@ -18,12 +18,12 @@ use Rattle.model.specs.declared.Ran.{Ran}
 use Rattle.model.specs.declared.ShowAnswer.{ShowAnswer}
 use Rattle.model.specs.declared.ShowAnswer.the-variants as show-answer
 use Rattle.model.specs.Limits.{triesLimit}
-use Rattle.model.specs.Refusal.{given, replyAfter, verdictReply}
+use Rattle.model.specs.Refusal.{replyAfter, verdictReply}
 use Rattle.model.specs.Pattern.{Pattern, patternOf, lineTotal}
 use Rattle.model.specs.Split.{Split, Meets, capsOutside, partNumber, volume}
 use Rattle.model.specs.Walk.{Record, rulesOf, walked, floor}
 use Rattle.model.specs.State.{recordOf, searchOf, stateFine}
-use Rattle.model.specs.Calls.{listVerdict, openVerdict, openCall, completeNumber, ranAfter, shownFrom, shownAfter, partsAfter, runReply, showReply, shownReply, openReplies}
+use Rattle.model.specs.Calls.{listVerdict, openVerdict, openCall, ranReply, ranAfter, shownFrom, shownAfter, partsAfter, runReply, showReply, shownReply, openReplies}
 use Rattle.pattern.specs.Splits.{splitOf}
 use Rattle.search.specs.History.{acceptedBudget, Handed, runOf, showOf, partsOf, runTable, showTable, History, opened, ran, showed}
 
@@ -34,7 +34,7 @@ pub record Within (m n nonzeros : ℕ) (list : List ℕ) (caps : Caps) : Type 0 
 
 -- demand 3 at one point of a history: P is the pattern, r the walk's record after the accepted budgets, and s the search
 pub record DemandAt (m n nonzeros : ℕ) (list : List ℕ) (caps : Caps) (P : Pattern) (r : Record) (s : Search) : Type 0 where
-  -- the state and tries are exactly those of the walk, markings mark by mark
+  -- the state, tries and looks are exactly those of the walk, markings mark by mark
   pub state : recordOf s ≡ r
   pub whole : s ≡ searchOf r
   -- a run is accepted exactly if the table, read with the walk's record, gives it no refusal, and makes its budget of the walk's tries
@@ -63,6 +63,9 @@ pub record DemandAt (m n nonzeros : ℕ) (list : List ℕ) (caps : Caps) (P : Pa
   -- tries never exceed (3^(k+1) − 3) / 2, nor the limit
   pub tries-ends : r .tries ≤ (3 ^ (lineTotal P + 1) - 3) / 2
   pub tries-limit : r .tries ≤ triesLimit
+  -- looks never exceed tries × m × N, and fit eight bytes
+  pub looks-most : r .looks ≤ r .tries * m * nonzeros
+  pub looks-fit : r .looks < 2 ^ 64
 
 -- demand 3 at a point where the accepted budgets add up to total
 abbrev pub Demand : ℕ → ℕ → ℕ → List ℕ → Caps → Search → ℕ → Type 0
@@ -82,11 +85,15 @@ pub record RunAnswered (verdict : Verdict) (after : Record) (s : Search) (answer
   -- refused as the table says, and then the search is as it was
   pub refused : (word : Word) (place : ℕ) → (answer .answer ≡ run-answer.Refused word place) ↔ (verdict ≡ Refused word place)
   pub unchanged : (word : Word) (place : ℕ) → answer .answer ≡ run-answer.Refused word place → answer .search ≡ s
-  -- otherwise complete, or stopped, as the walk's record
-  pub complete : (answer .answer ≡ run-answer.Complete) ↔ ((verdict ≡ Accepted) × (after .complete ≡ true))
-  pub stopped : (answer .answer ≡ run-answer.Stopped) ↔ ((verdict ≡ Accepted) × (after .complete ≡ false))
+  -- otherwise complete, or stopped, as the walk's record, with the looks of that record
+  pub complete :
+      (looks : ℕ) →
+      (answer .answer ≡ run-answer.Complete looks) ↔ ((verdict ≡ Accepted) × (after .complete ≡ true) × (after .looks ≡ looks))
+  pub stopped :
+      (looks : ℕ) →
+      (answer .answer ≡ run-answer.Stopped looks) ↔ ((verdict ≡ Accepted) × (after .complete ≡ false) × (after .looks ≡ looks))
   -- what the run replies in numbers
-  pub reply : runReply (answer .answer) ≡ replyAfter verdict (given (completeNumber (after .complete) ∷ []))
+  pub reply : runReply (answer .answer) ≡ replyAfter verdict (ranReply after)
 
 -- what a split that was answered is: `shown` and `low` are the volume and the floor answered, `after` the bytes left in the parts buffer
 pub record SplitAnswered (P : Pattern) (caps : Caps) (r : Record) (parts : List ℕ) (shown low : ℕ) (after : List ℕ) : Type 0 where

@@ -21,8 +21,8 @@ use Rattle.model.specs.Calls.{listVerdict, runVerdict, showVerdict, openCall, r
 
 -- the budget of a run that was accepted; a run not accepted adds no tries
 unfoldable pub acceptedBudget : RunAnswer → ℕ → ℕ
-acceptedBudget run-answer.Complete budget = budget
-acceptedBudget run-answer.Stopped budget = budget
+acceptedBudget (run-answer.Complete looks) budget = budget
+acceptedBudget (run-answer.Stopped looks) budget = budget
 acceptedBudget (run-answer.Refused word place) budget = 0
 
 -- what a call is handed: sizes and a slice, whatever they are; but from the opening on nothing writes the pattern's list, so a slice that

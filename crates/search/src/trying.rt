@@ -8,26 +8,27 @@ use pattern::reading::wide16;
 use state::legal::cuts_before;
 use trail::Trail;
 ghost use mathlib.Core.Path.{_≡_};
-ghost use Prim.Native.Nat.{_+_, _<_};
+ghost use Prim.Native.Nat.{_+_, _^_, _<_};
 ghost use lib.Dec.{ltb};
 ghost use Rattle.model.specs.Limits.{triesLimit};
 ghost use Rattle.model.specs.Pattern.{patternOf};
-ghost use Rattle.model.specs.Walk.{Record, rulesOf, tryOnce};
-ghost use Rattle.model.specs.State.{capsIn, searchOf};
-ghost use Rattle.state.specs.Ready.{Fits, Ready};
-ghost use Rattle.search.specs.Trying.{standsBy, triedTo, improvedBy, outcomeBy};
+ghost use Rattle.model.specs.Walk.{rulesOf, tryOnce};
+ghost use Rattle.model.specs.State.{capsIn, recordOf, searchOf};
+ghost use Rattle.search.specs.Trying.{standsBy, triedTo, improvedBy, outcomeBy, Tryable};
 
 pub(crate) mod running;
 
-// One try more, after which this is the trail.
-fn tried(mut search: Search, trail: Trail) -> Search
-    requires { ⌜ search .tries < triesLimit ⌝ }
-    ensures { λ r. ⌜ r ≡ triedTo search trail ⌝ }
+// One try more with so many looks, after which this is the trail.
+fn tried(mut search: Search, trail: Trail, looks: u64) -> Search
+    requires { ⌜ (search .tries < triesLimit) × (search .looks + looks < 2 ^ 64) ⌝ }
+    ensures { λ r. ⌜ r ≡ triedTo looks search trail ⌝ }
 {
     search.complete = trail.len == 0;
     search.trail = trail;
     let tries = search.tries;
     search.tries = tries + 1;
+    let before = search.looks;
+    search.looks = before + looks;
     search
 }
 
@@ -44,21 +45,21 @@ fn improved(mut search: Search) -> Search
     search
 }
 
-// What a try does to a trail that stands or not, where mark 1 may come first or not.
-fn outcome(search: Search, stands: bool, k: usize, first: bool) -> Search
-    requires { ⌜ search .tries < triesLimit ⌝ }
-    ensures { λ r. ⌜ r ≡ outcomeBy first stands (ltb (search .trail .len) k) search ⌝ }
+// What a try with so many looks does to a trail that stands or not, where mark 1 may come first or not.
+fn outcome(search: Search, stands: bool, k: usize, first: bool, looks: u64) -> Search
+    requires { ⌜ (search .tries < triesLimit) × (search .looks + looks < 2 ^ 64) ⌝ }
+    ensures { λ r. ⌜ r ≡ outcomeBy looks first stands (ltb (search .trail .len) k) search ⌝ }
 {
     let trail = search.trail;
     let shorter = trail.len < k;
     if stands {
         if shorter {
-            return tried(search, trail.append(0));
+            return tried(search, trail.append(0), looks);
         }
         let better = improved(search);
-        return tried(better, trail.advance(first));
+        return tried(better, trail.advance(first), looks);
     }
-    tried(search, trail.advance(first))
+    tried(search, trail.advance(first), looks)
 }
 
 // The trail stands: it is valid and its bound is below the best count.
@@ -82,10 +83,9 @@ fn try_once(
     starts: &[u16; 257],
     k: u16,
 ) -> Search
-    requires { ⌜ search .tries < triesLimit ⌝ }
-    ensures { λ s. ⌜ (s .tries ≡ search .tries + 1) × (Ready m n nonzeros (now (list .entry)) (now (places .entry)) (now (starts .entry)) k →
-        (r : Record) → search ≡ searchOf r → Fits k r →
-        s ≡ searchOf (tryOnce (rulesOf (patternOf m n nonzeros (now (list .entry))) (capsIn search)) r)) ⌝ }
+    requires { ⌜ (search .tries < triesLimit) × (search ≡ searchOf (recordOf search))
+        × Tryable m n nonzeros (now list) (now places) (now starts) k search ⌝ }
+    ensures { λ s. ⌜ s ≡ searchOf (tryOnce (rulesOf (patternOf m n nonzeros (now (list .entry))) (capsIn search)) (recordOf search)) ⌝ }
 {
     let trail = search.trail;
     let marks = trail.marks;
@@ -96,5 +96,5 @@ fn try_once(
     };
     let judged = evaluate(m, n, nonzeros, list, caps, places, starts, &marks, len);
     let stands = judged_stands(judged, search.best_count);
-    outcome(search, stands, wide16(k), unequal_caps(caps))
+    outcome(search, stands, wide16(k), unequal_caps(caps), judged.looks)
 }

@@ -24,6 +24,7 @@ fn replaced(mut search: Search, letter: u8, number: u64, trail: Trail) -> Search
         b'r' => search.cap0 = number,
         b'e' => search.cap1 = number,
         b'i' => search.tries = number,
+        b'o' => search.looks = number,
         b't' => search.best_count = number,
         b'm' => search.complete = number == 1,
         b's' => search.best = trail,

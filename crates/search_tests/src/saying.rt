@@ -77,6 +77,7 @@ pub(crate) fn say_verdict(verdict: Verdict) {
 // A search's record.
 pub(crate) fn say_record(search: Search) {
     say_number(b"  tries ", search.tries);
+    say_number(b" looks ", search.looks);
     say_number(b" best ", search.best_count);
     say(b" bestmarking ");
     say_marking(search.found, search.best);

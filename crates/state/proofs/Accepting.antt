@@ -5,6 +5,7 @@ use mathlib.Core.List.{List, [], _∷_}
 use mathlib.Core.Option.{Option, some, none}
 use mathlib.Core.Path.{_≡_, refl, sym, _∙_, ap}
 use Prim.Native.Nat.{ℕ, _*_, _≤_}
+use native.Mathlib.Nat.{mul-assoc}
 use native.Mathlib.Omega.{arith}
 use lib.Dec.{eqb, leb}
 use lib.ListN.{length, getD}
@@ -12,15 +13,16 @@ use borrow.Author.Tests.{leb-true, eqb-true}
 use Rattle.counting.proofs.Joined.{clash, and-left, and-right, never}
 use Rattle.model.specs.declared.Verdict.the-variants.{Accepted}
 use Rattle.model.specs.declared.Search.{Search}
-use Rattle.model.specs.Limits.{lineLimit}
+use Rattle.model.specs.Limits.{lineLimit, triesLimit}
 use Rattle.model.specs.Pattern.{patternOf, lineTotal}
 use Rattle.model.specs.Walk.{Record, Rules, rulesOf, cuts, isEmpty}
-use Rattle.model.specs.State.{marksIn, bestIn, capsIn, recordOf, searchOf, areMarks, onesAllowed, beginningsValid, trailFine, bestFine, stateFine}
+use Rattle.model.specs.State.{marksIn, bestIn, capsIn, recordOf, searchOf, areMarks, onesAllowed, beginningsValid, trailFine, bestFine, stateFine, countsFine}
 use Rattle.model.specs.Calls.{listVerdict}
 use Rattle.state.specs.Holding.{normalOf}
 use Rattle.matching.specs.Starts.{rowStart}
 use Rattle.bound.specs.Evaluated.{Placed}
 use Rattle.bound.proofs.Evaluations.{accepted-listed}
+use Rattle.model.proofs.Walk.Looked.{Looked}
 use Rattle.model.proofs.Theorems.Accepted.{list-accepted}
 use Rattle.model.proofs.Theorems.OfList.{rules-k}
 use Rattle.state.specs.Ready.{Ready, Fits}
@@ -68,6 +70,21 @@ fine-fits R m n nonzeros r h =
     record {
       trail-fits = trail-short R (r .complete) (r .trail) (and-right _ (trailFine R (r .complete) (r .trail)) (and-left _ (bestFine R (r .best) (r .bestCount) (r .complete)) h));
       best-fits = best-short R (r .best) (r .bestCount) (r .complete) (and-right _ (bestFine R (r .best) (r .bestCount) (r .complete)) h);
+    }
+
+-- and its looks are at most tries × m × N
+pub fine-looked : (R : Rules) (m n nonzeros : ℕ) (r : Record) → stateFine R m n nonzeros r ≡ true → Looked (m * nonzeros) r
+unfolding stateFine countsFine
+fine-looked R m n nonzeros r h =
+    record {
+      few = omega (
+        arith,
+        leb-true
+            (r .looks)
+            (r .tries * m * nonzeros)
+            (and-right (leb (r .tries) triesLimit) _ (and-right _ (countsFine (r .tries) (r .looks) m nonzeros) (and-left _ (trailFine R (r .complete) (r .trail)) (and-left _ (bestFine R (r .best) (r .bestCount) (r .complete)) h)))),
+        mul-assoc (r .tries) m nonzeros,
+      );
     }
 
 -- the best marking that a search holds, where it has found one

@@ -38,6 +38,7 @@ record-back r short best =
       nonzeros = r .nonzeros;
       caps = r .caps;
       tries = r .tries;
+      looks = r .looks;
       bestCount = r .bestCount;
       best = best-back (r .best) best i;
       complete = r .complete;

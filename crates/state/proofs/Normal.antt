@@ -42,6 +42,7 @@ normal-is s short best =
       cap0 = s .cap0;
       cap1 = s .cap1;
       tries = s .tries;
+      looks = s .looks;
       «best_count» = s .«best_count»;
       found = sym (found-is (s .found) (s .best)) i;
       best = best-is (s .found) (s .best) best i;

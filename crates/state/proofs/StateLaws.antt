@@ -4,7 +4,7 @@ use mathlib.Core.Bool.{Bool, true, false, not}
 use mathlib.Core.List.{List, [], _∷_}
 use mathlib.Core.Option.{some}
 use mathlib.Core.Path.{_≡_, refl, sym, _∙_, ap}
-use Prim.Native.Nat.{ℕ, zero, suc, _+_, _-_, _≤_}
+use Prim.Native.Nat.{ℕ, zero, suc, _+_, _≤_}
 use native.Mathlib.Omega.{arith}
 use lib.Dec.{eqb, leb}
 use lib.ListN.{length, getD}
@@ -14,10 +14,9 @@ use Rattle.counting.proofs.Joined.{no-way, clash, and-left, and-right, pick-tru
 use Rattle.trail.specs.declared.Trail.{Trail}
 use Rattle.trail.specs.Trail.{markOr}
 use Rattle.model.specs.declared.Search.{Search}
-use Rattle.model.specs.Limits.{triesLimit}
 use Rattle.model.specs.Split.{capsOutside}
 use Rattle.model.specs.Walk.{Rules, cuts, isEmpty}
-use Rattle.model.specs.State.{stack, marksIn, bestIn, capsIn, recordOf, areMarks, onesAllowed, beginningsValid, trailFine, bestFine, stateFine}
+use Rattle.model.specs.State.{stack, marksIn, bestIn, capsIn, recordOf, areMarks, onesAllowed, beginningsValid, trailFine, bestFine, stateFine, countsFine}
 use Rattle.model.proofs.Order.SplitMarks.{stack-length}
 use Rattle.marking.proofs.Trails.{marks-before}
 use Rattle.state.specs.Legal.{marksLegal, onesLegal, cutsIn}
@@ -169,15 +168,12 @@ pub state-is :
     numbersBy s m n nonzeros and trail and best ≡ stateFine R m n nonzeros (recordOf s)
 unfolding numbersBy stateFine recordOf
 state-is R m n nonzeros s trail best a b =
-    ap
-    (λ (x : Bool). x and leb (s .tries) triesLimit and trail and best)
-    (caps-turned
+    λ i.
+    caps-turned
     (eqb (s .m) m and eqb (s .n) n and eqb (s .nonzeros) nonzeros)
     (not (capsOutside (capsIn s)))
-    (leb nonzeros (s .cap0 + s .cap1)))
-    ∙ ap
-    (λ (x : Bool). eqb (s .m) m and eqb (s .n) n and eqb (s .nonzeros) nonzeros and leb nonzeros (s .cap0 + s .cap1) and not (capsOutside (capsIn s)) and leb (s .tries) triesLimit and x and best)
-    a
-    ∙ ap
-    (λ (x : Bool). eqb (s .m) m and eqb (s .n) n and eqb (s .nonzeros) nonzeros and leb nonzeros (s .cap0 + s .cap1) and not (capsOutside (capsIn s)) and leb (s .tries) triesLimit and trailFine R (s .complete) (marksIn (s .trail)) and x)
-    b
+    (leb nonzeros (s .cap0 + s .cap1))
+    i
+    and countsFine (s .tries) (s .looks) m nonzeros
+    and a i
+    and b i

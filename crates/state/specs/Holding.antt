@@ -26,6 +26,7 @@ normalOf s =
       cap0 = s .cap0;
       cap1 = s .cap1;
       tries = s .tries;
+      looks = s .looks;
       «best_count» = s .«best_count»;
       found = s .found;
       best = bestTo (s .found) (s .best);

@@ -6,9 +6,8 @@ use lib.Dec.{eqb, leb}
 use Rattle.counting.specs.Tests.{_and_, pick}
 use Rattle.trail.specs.declared.Trail.{Trail}
 use Rattle.model.specs.declared.Search.{Search}
-use Rattle.model.specs.Limits.{triesLimit}
 use Rattle.model.specs.Split.{capsOutside}
-use Rattle.model.specs.State.{capsIn}
+use Rattle.model.specs.State.{capsIn, countsFine}
 use Rattle.state.specs.Legal.{marksLegal, onesLegal, cutsIn}
 
 -- the trail, where its longest proper beginning is valid or not, and mark 1 may come first or not
@@ -34,7 +33,7 @@ unfoldable pub bestBy : Search → ℕ → Bool → Bool
 bestBy s k valid =
     pick (s .found) (fullBy (s .best) k valid (s .«best_count»)) (not (s .complete) and eqb (s .«best_count») (k + 1))
 
--- m, n and N are the list's, and caps and tries are in range
+-- m, n and N are the list's, and caps, tries and looks are in range
 unfoldable pub numbersBy : Search → ℕ → ℕ → ℕ → Bool
 numbersBy s m n nonzeros =
     eqb (s .m) m
@@ -42,4 +41,4 @@ numbersBy s m n nonzeros =
     and eqb (s .nonzeros) nonzeros
     and not (capsOutside (capsIn s))
     and leb nonzeros (s .cap0 + s .cap1)
-    and leb (s .tries) triesLimit
+    and countsFine (s .tries) (s .looks) m nonzeros

@@ -7,6 +7,8 @@ use model::Search;
 use pattern::cap::caps_outside;
 use trail::Trail;
 ghost use mathlib.Core.Path.{_≡_};
+ghost use Prim.Native.Nat.{_≤_};
+ghost use Rattle.model.specs.State.{countsFine};
 ghost use Rattle.state.specs.StateBy.{trailBy, fullBy, bestBy, numbersBy};
 
 // The trail is empty if the search is complete; else it has 1 to k legal marks, and its longest proper beginning is valid.
@@ -63,8 +65,20 @@ pub(crate) fn best_fine(search: Search, k: u16, valid: bool) -> bool
     count == (k as u64) + 1
 }
 
-// The numbers of a state: m, n and N are the list's, N is at most cap 0 + cap 1, and caps and tries are in range.
+// Tries are in range, and looks are at most tries × m × N. N is at most the sum of two caps, so that the product fits.
+fn counts_fine(tries: u64, looks: u64, m: u64, nonzeros: u64) -> bool
+    requires { ⌜ (m ≤ 255) × (nonzeros ≤ 4000) ⌝ }
+    ensures { λ r. ⌜ r ≡ countsFine tries looks m nonzeros ⌝ }
+{
+    if 10_000_000_000_000 < tries {
+        return false;
+    }
+    looks <= tries * m * nonzeros
+}
+
+// The numbers of a state: m, n and N are the list's, N is at most cap 0 + cap 1, and caps, tries and looks are in range.
 pub(crate) fn numbers_fine(search: Search, m: u64, n: u64, nonzeros: u64) -> bool
+    requires { ⌜ m ≤ 255 ⌝ }
     ensures { λ r. ⌜ r ≡ numbersBy search m n nonzeros ⌝ }
 {
     let rows = search.m;
@@ -75,6 +89,7 @@ pub(crate) fn numbers_fine(search: Search, m: u64, n: u64, nonzeros: u64) -> boo
         cap1: search.cap1,
     };
     let tries = search.tries;
+    let looks = search.looks;
     if rows != m {
         return false;
     }
@@ -90,5 +105,5 @@ pub(crate) fn numbers_fine(search: Search, m: u64, n: u64, nonzeros: u64) -> boo
     if caps.cap0 + caps.cap1 < nonzeros {
         return false;
     }
-    tries <= 1_000_000_000_000_000
+    counts_fine(tries, looks, m, nonzeros)
 }

@@ -44,6 +44,19 @@ fn same_trail(a: Trail, b: Trail) -> bool
     same_bytes(&first, &second)
 }
 
+// Two searches have the same tries, looks and best count.
+fn same_counts(a: Search, b: Search) -> bool
+    ensures { λ r. ⌜ (r ≡ true → (a .tries ≡ b .tries) × (a .looks ≡ b .looks) × (a .«best_count» ≡ b .«best_count»)) ⌝ }
+{
+    if a.tries != b.tries {
+        return false;
+    }
+    if a.looks != b.looks {
+        return false;
+    }
+    a.best_count == b.best_count
+}
+
 // Two searches are the same, field by field and byte by byte.
 pub fn same_search(a: Search, b: Search) -> bool
     ensures { λ r. ⌜ (r ≡ true → a ≡ b) ⌝ }
@@ -67,10 +80,7 @@ pub fn same_search(a: Search, b: Search) -> bool
     if a.cap1 != b.cap1 {
         return false;
     }
-    if a.tries != b.tries {
-        return false;
-    }
-    if a.best_count != b.best_count {
+    if !same_counts(a, b) {
         return false;
     }
     if a.found != b.found {

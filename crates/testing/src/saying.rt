@@ -59,8 +59,8 @@ pub fn say_refused(word: Word, place: u64) {
 // What a run answers.
 pub fn say_run(answer: RunAnswer) {
     match answer {
-        RunAnswer::Complete => say(b" complete"),
-        RunAnswer::Stopped => say(b" stopped"),
+        RunAnswer::Complete { looks } => say_number(b" complete looks ", looks),
+        RunAnswer::Stopped { looks } => say_number(b" stopped looks ", looks),
         RunAnswer::Refused(word, place) => say_refused(word, place),
     }
 }

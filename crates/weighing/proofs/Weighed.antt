@@ -2,7 +2,7 @@
 -- Assumes nothing.
 use mathlib.Core.Bool.{Bool, true, false, not}
 use mathlib.Core.List.{List}
-use mathlib.Core.Path.{_≡_, refl, sym, _∙_, ap}
+use mathlib.Core.Path.{_≡_, sym, _∙_, ap}
 use Prim.Native.Nat.{ℕ, _+_, _≤_, _<_}
 use native.Mathlib.Omega.{arith}
 use borrow.Author.Tests.{ltb-true, eqb-false, eq-eqb, ne-eqb}
@@ -10,16 +10,16 @@ use lib.Dec.{eqb, ltb}
 use lib.ListN.{getD}
 use Rattle.counting.specs.Tests.{_and_, _or_, bit}
 use Rattle.counting.specs.Sums.{count}
-use Rattle.counting.proofs.Joined.{no-way, by-test, bit-false, and-left, and-right, and-fails-left, and-fails-right, or-left, or-right, or-fails, pick-false}
-use Rattle.counting.proofs.Counted.{count-most, count-eq, count-some, count-none, count-more}
+use Rattle.counting.proofs.Joined.{by-test, bit-false, and-left, and-right, and-fails-left, and-fails-right, or-left, or-right, or-fails, pick-false}
+use Rattle.counting.proofs.Counted.{count-most, count-eq, count-more}
 use Rattle.model.specs.declared.Part.{Part}
 use Rattle.model.specs.declared.Part.the-variants.{Zero, One}
 use Rattle.model.specs.Pattern.{Pattern, Inside, patternOf, rowIn, columnIn, lines, rowLine, columnLine, on}
 use Rattle.model.specs.Split.{partNumber}
 use Rattle.model.specs.Marking.{Marking, takes}
-use Rattle.model.specs.Bound.{leans, untaken, untakenOn, atStake, conflict, L4}
+use Rattle.model.specs.Bound.{leans, untaken, untakenOn, atStake, conflict}
+use Rattle.model.specs.Matching.{conflicts}
 use Rattle.model.proofs.Split.Lines.{row-line-in, column-line-in}
-use Rattle.model.proofs.Bound.Cover.{cover-bounds}
 use Rattle.weighing.specs.declared.weights.Stakes.{Stakes}
 use Rattle.weighing.specs.Cells.{markingIn, Cleared}
 use Rattle.weighing.specs.Weights.{leansIn, stakeIn, conflictIn, WeighsAll, WeighsMore}
@@ -173,17 +173,10 @@ module _ (P : Pattern) (μ : Marking) (lean : List ℕ) (i : Inside P) (right : 
         right Zero (columnLine P t) (column-line-in P t i b),
       )
 
-  -- without conflicts L4 is 0
-  pub no-conflicts : count (conflictIn P lean) (P .size) ≡ 0 → L4 P μ ≡ 0
-  no-conflicts e =
-      omega (
-        arith,
-        cover-bounds P μ (λ l. false) i none,
-        count-none (λ l. false) (lines P) (λ l b. refl),
-      )
-    where
-      none : (t : ℕ) → t < P .size → conflict P μ t ≡ true → false or false ≡ true
-      none t b h = no-way (omega (arith, count-some (conflictIn P lean) (P .size) t b (conflict-is t b ∙ h)))
+  -- there are as many
+  pub conflicts-are : count (conflictIn P lean) (P .size) ≡ conflicts P μ
+  unfolding conflicts
+  conflicts-are = count-eq (conflictIn P lean) (conflict P μ) (P .size) conflict-is
 
 -- a nonzero whose row is marked 0 or 1 is taken
 row-untaken :

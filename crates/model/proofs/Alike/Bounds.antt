@@ -1,8 +1,8 @@
--- Markings that agree on the lines of patterns that are alike have the same bound.
+-- Markings that agree on the lines of patterns that are alike have the same bound and the same looks.
 -- Assumes nothing.
 use mathlib.Core.Bool.{Bool, false}
 use mathlib.Core.List.{List, _++_}
-use mathlib.Core.Path.{_≡_, refl, _∙_, ap}
+use mathlib.Core.Path.{_≡_, refl, _∙_, ap, fun-ext}
 use Prim.Native.Nat.{ℕ, zero, suc, _≤_, _<_}
 use native.Mathlib.Omega.{arith}
 use lib.Dec.{eqb}
@@ -16,6 +16,8 @@ use Rattle.model.specs.declared.Caps.{Caps}
 use Rattle.model.specs.Pattern.{Pattern, lines, rowLine, columnLine, on}
 use Rattle.model.specs.Marking.{Marking}
 use Rattle.model.specs.Bound.{leans, untaken, atStake, untakenOn, falling, leaningCounts, struck, L3, conflict, mostChosen, L4, bound}
+use Rattle.model.specs.Matching.{columnsWhere, conflictOf, conflictColumns, startsFrom, matchingSearch, looks}
+use Rattle.model.proofs.Matching.Columns.{where-eq}
 use Rattle.model.proofs.Alike.Patterns.{counts-agree, lines-same, row-line-same, column-line-same, on-same}
 use Rattle.model.proofs.Alike.Marks.{AlikeMarks, taken-same, untaken-same, leans-same, leans-row, leans-column, L1-same, L2-same}
 
@@ -106,3 +108,25 @@ module _ {P Q : Pattern} {μ ν : Marking} (k : AlikeMarks P Q μ ν) where
   pub bound-same : (caps : Caps) → bound P caps μ ≡ bound Q caps ν
   unfolding bound
   bound-same caps = rw (L1-same k, L2-same k, L3-same caps, L4-same)
+
+  -- the conflict columns of a row
+  columns-same : (i : ℕ) → conflictColumns P μ i ≡ conflictColumns Q ν i
+  unfolding conflictColumns conflictOf
+  columns-same i =
+      where-eq
+      (conflictOf P μ i)
+      (conflictOf Q ν i)
+      (P .column)
+      (Q .column)
+      (P .size)
+      0
+      (λ t a b. and-eq (conflict-same t (omega arith)) (ap (λ (r : ℕ). eqb r i) (k .patterns .row-same t (omega arith))))
+      (λ t a b. k .patterns .column-same t (omega arith))
+      ∙ ap (λ (size : ℕ). columnsWhere (conflictOf Q ν i) (Q .column) size 0) (k .patterns .size-same)
+
+  pub looks-same : looks P μ ≡ looks Q ν
+  unfolding looks matchingSearch
+  looks-same =
+      ap (λ (columns : ℕ → List ℕ). startsFrom columns (P .n) (P .m) .looks) (fun-ext columns-same)
+      ∙ ap (λ (n : ℕ). startsFrom (conflictColumns Q ν) n (P .m) .looks) (k .patterns .n-same)
+      ∙ ap (λ (m : ℕ). startsFrom (conflictColumns Q ν) (Q .n) m .looks) (k .patterns .m-same)

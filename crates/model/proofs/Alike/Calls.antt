@@ -3,7 +3,7 @@
 use mathlib.Core.Bool.{Bool}
 use mathlib.Core.List.{List}
 use mathlib.Core.Option.{Option, some, none}
-use mathlib.Core.Path.{_≡_, refl, _∙_, ap, fun-ext}
+use mathlib.Core.Path.{_≡_, refl, ap, fun-ext}
 use Prim.Native.Nat.{ℕ}
 use Rattle.model.specs.declared.Verdict.{Verdict}
 use Rattle.model.specs.declared.Verdict.the-variants.{Accepted, Refused}
@@ -13,25 +13,24 @@ use Rattle.model.specs.Pattern.{Pattern, lineTotal}
 use Rattle.model.specs.Split.{unequal}
 use Rattle.model.specs.Marking.{marking, valid}
 use Rattle.model.specs.Bound.{bound}
+use Rattle.model.specs.Matching.{looks}
 use Rattle.model.specs.Walk.{Record, Rules, rulesOf, freshOf, walked, floor}
 use Rattle.model.specs.State.{recordOf}
 use Rattle.model.specs.Calls.{openedAfter, ranRecord, ranAfter, shown, shownParts, shownAfter, partsAfter}
 use Rattle.model.proofs.Alike.Patterns.{Alike, total-same}
 use Rattle.model.proofs.Alike.Marks.{trail-marks, valid-same}
-use Rattle.model.proofs.Alike.Bounds.{bound-same}
+use Rattle.model.proofs.Alike.Bounds.{bound-same, looks-same}
 use Rattle.model.proofs.Alike.Shown.{alike-bytes, alike-shown-volume}
 
 -- rules that ask the same of each marking
-abbrev rules : Caps → ℕ → (List ℕ → Bool) → (List ℕ → ℕ) → Rules
-rules caps k valid bound = record { k = k; oneFirst = unequal caps; valid = valid; bound = bound }
+abbrev rules : Caps → ℕ → (List ℕ → Bool) → (List ℕ → ℕ) → (List ℕ → ℕ) → Rules
+rules caps k valid bound looks = record { k = k; oneFirst = unequal caps; valid = valid; bound = bound; looks = looks }
 
 rules-agree :
-    (caps : Caps) (j k : ℕ) (v w : List ℕ → Bool) (b c : List ℕ → ℕ) →
-    j ≡ k → ((τ : List ℕ) → v τ ≡ w τ) → ((τ : List ℕ) → b τ ≡ c τ) → rules caps j v b ≡ rules caps k w c
-rules-agree caps j k v w b c e f g =
-    let f′ : v ≡ w = fun-ext f in
-    let g′ : b ≡ c = fun-ext g in
-    ap (λ (x : ℕ). rules caps x v b) e ∙ ap (λ (x : List ℕ → Bool). rules caps k x b) f′ ∙ ap (rules caps k w) g′
+    (caps : Caps) (j k : ℕ) (v w : List ℕ → Bool) (b c l n : List ℕ → ℕ) →
+    j ≡ k → ((τ : List ℕ) → v τ ≡ w τ) → ((τ : List ℕ) → b τ ≡ c τ) → ((τ : List ℕ) → l τ ≡ n τ) →
+    rules caps j v b l ≡ rules caps k w c n
+rules-agree caps j k v w b c l n e f g h = λ i. rules caps (e i) (fun-ext f i) (fun-ext g i) (fun-ext h i)
 
 module _ {P Q : Pattern} (a : Alike P Q) where
   -- what the walk asks of a marking
@@ -46,9 +45,12 @@ module _ {P Q : Pattern} (a : Alike P Q) where
       (λ τ. valid Q caps (marking Q τ))
       (λ τ. bound P caps (marking P τ))
       (λ τ. bound Q caps (marking Q τ))
+      (λ τ. looks P (marking P τ))
+      (λ τ. looks Q (marking Q τ))
       (total-same a)
       (λ τ. valid-same (trail-marks a τ) caps)
       (λ τ. bound-same (trail-marks a τ) caps)
+      (λ τ. looks-same (trail-marks a τ))
 
   -- the fresh record
   pub alike-fresh : (caps : Caps) → freshOf P caps ≡ freshOf Q caps

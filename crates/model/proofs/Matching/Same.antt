@@ -9,8 +9,9 @@ use Rattle.counting.proofs.Joined.{by-test}
 use Rattle.counting.proofs.Counted.{count-eq}
 use Rattle.model.specs.Pattern.{Pattern}
 use Rattle.model.specs.Marking.{Marking}
+use Rattle.model.specs.Matching.{withMate}
 use Rattle.model.proofs.Matching.Mates.{Matching, matched}
-use Rattle.model.proofs.Matching.Swap.{withMate, with-same, with-other}
+use Rattle.model.proofs.Matching.Swap.{with-same, with-other}
 
 -- mates that agree on every column are a matching together
 pub matching-same :

@@ -7,18 +7,15 @@ use Prim.Native.Nat.{ℕ, suc, _+_, _<_}
 use native.Mathlib.Omega.{arith}
 use lib.Dec.{eqb, ltb}
 use borrow.Author.Tests.{eqb-true, eqb-false, eq-eqb, ne-eqb}
-use Rattle.counting.specs.Tests.{pick, bit}
+use Rattle.counting.specs.Tests.{bit}
 use Rattle.counting.specs.Sums.{count}
 use Rattle.counting.proofs.Joined.{no-way, by-test, pick-true, pick-false, bit-true, bit-false}
 use Rattle.counting.proofs.Summed.{sum-eq, sum-add, sum-only}
 use Rattle.counting.proofs.Counted.{count-eq}
 use Rattle.model.specs.Pattern.{Pattern}
 use Rattle.model.specs.Marking.{Marking}
+use Rattle.model.specs.Matching.{withMate}
 use Rattle.model.proofs.Matching.Mates.{Matching, joined, matched, mate-matched}
-
--- the mates, but x for column j
-unfoldable pub withMate : (ℕ → ℕ) → ℕ → ℕ → ℕ → ℕ
-withMate mate j x c = pick (eqb c j) x (mate c)
 
 -- column j has x
 pub with-same : (mate : ℕ → ℕ) (j x : ℕ) → withMate mate j x j ≡ x

@@ -204,10 +204,10 @@ ones-everywhere (x ∷ τ) = and-intro (or-right (not (eqb x 1)) refl) (ones-eve
 
 -- a marking of a split that meets the caps is full if its marks are allowed
 split-full :
-    (P : Pattern) (caps : Caps) (β : Marking → ℕ) (σ : Split) → Inside P → Meets P caps σ →
-    onesAllowed (unequal caps) (splitMarks P σ) ≡ true → Full (rulesBy P caps β) (splitMarks P σ)
+    (P : Pattern) (caps : Caps) (β γ : Marking → ℕ) (σ : Split) → Inside P → Meets P caps σ →
+    onesAllowed (unequal caps) (splitMarks P σ) ≡ true → Full (rulesBy P caps β γ) (splitMarks P σ)
 unfolding rulesBy splitMarks
-split-full P caps β σ i meets s =
+split-full P caps β γ σ i meets s =
     record {
       long = stack-length (λ j. splitMark P σ (lineAt P j)) (lineTotal P);
       marks = stack-marks (λ j. splitMark P σ (lineAt P j)) (lineTotal P) (λ j. split-mark-small P σ (lineAt P j));
@@ -222,10 +222,10 @@ pub record Marked (R : Rules) (most : ℕ) : Type 0 where
   pub few : cuts marks ≤ most
 
 pub split-marked :
-    (P : Pattern) (caps : Caps) (β : Marking → ℕ) (σ : Split) →
-    Inside P → Meets P caps σ → Marked (rulesBy P caps β) (volume P σ)
+    (P : Pattern) (caps : Caps) (β γ : Marking → ℕ) (σ : Split) →
+    Inside P → Meets P caps σ → Marked (rulesBy P caps β γ) (volume P σ)
 unfolding splitMarks
-split-marked P caps β σ i meets =
+split-marked P caps β γ σ i meets =
     by-test
     (unequal caps)
     (λ apart. as-it-is (ap (λ (first : Bool). onesAllowed first (splitMarks P σ)) apart ∙ ones-everywhere (splitMarks P σ)))
@@ -233,13 +233,13 @@ split-marked P caps β σ i meets =
     as-it-is
     (λ s. record {
       marks = splitMarks P (mirrored σ);
-      full = split-full P caps β (mirrored σ) i (turned-meets same) (ap (onesAllowed (unequal caps)) (mirrored-marks P σ) ∙ s);
+      full = split-full P caps β γ (mirrored σ) i (turned-meets same) (ap (onesAllowed (unequal caps)) (mirrored-marks P σ) ∙ s);
       few = omega (arith, split-cuts P (mirrored σ), mirrored-volume P σ);
     })
     (ones-either (unequal caps) (λ j. splitMark P σ (lineAt P j)) (lineTotal P)))
   where
-    as-it-is : onesAllowed (unequal caps) (splitMarks P σ) ≡ true → Marked (rulesBy P caps β) (volume P σ)
-    as-it-is s = record { marks = splitMarks P σ; full = split-full P caps β σ i meets s; few = split-cuts P σ }
+    as-it-is : onesAllowed (unequal caps) (splitMarks P σ) ≡ true → Marked (rulesBy P caps β γ) (volume P σ)
+    as-it-is s = record { marks = splitMarks P σ; full = split-full P caps β γ σ i meets s; few = split-cuts P σ }
 
     turned-meets : unequal caps ≡ false → Meets P caps (mirrored σ)
     turned-meets same = subst (λ (c : Caps). Meets P c (mirrored σ)) (equal-exchanged caps same) (mirrored-meets P caps σ meets)

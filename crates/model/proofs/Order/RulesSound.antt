@@ -18,6 +18,7 @@ use Rattle.model.specs.Pattern.{Pattern, Inside, rowLine, columnLine, li
 use Rattle.model.specs.Split.{unequal}
 use Rattle.model.specs.Marking.{Marking, markNumber, place, markAt, marking, takes, valid}
 use Rattle.model.specs.Bound.{L1, bound}
+use Rattle.model.specs.Matching.{looks}
 use Rattle.model.specs.Walk.{Rules, rulesOf}
 use Rattle.model.proofs.Walk.Sound.{Sound}
 use Rattle.model.proofs.Bound.Validity.{is-valid}
@@ -66,22 +67,23 @@ all-cut-lines : (P : Pattern) (l : ℕ) → 2 ≤ marking P (replicate (lineTota
 unfolding marking
 all-cut-lines P l = all-cut-high (lineTotal P) (place P l)
 
--- the rules of a pattern and its caps with another bound
-unfoldable pub rulesBy : Pattern → Caps → (Marking → ℕ) → Rules
-rulesBy P caps β =
+-- the rules of a pattern and its caps with another bound and other looks
+unfoldable pub rulesBy : Pattern → Caps → (Marking → ℕ) → (Marking → ℕ) → Rules
+rulesBy P caps β γ =
     record {
       k = lineTotal P;
       oneFirst = unequal caps;
       valid = λ trail. valid P caps (marking P trail);
       bound = λ trail. β (marking P trail);
+      looks = λ trail. γ (marking P trail);
     }
 
--- a bound from L1 up to the bound is sound
+-- a bound from L1 up to the bound is sound, whatever its looks
 pub rules-by-sound :
-    (P : Pattern) (caps : Caps) (β : Marking → ℕ) → Inside P →
-    ((μ : Marking) → L1 P μ ≤ β μ) → ((μ : Marking) → β μ ≤ bound P caps μ) → Sound (rulesBy P caps β)
+    (P : Pattern) (caps : Caps) (β γ : Marking → ℕ) → Inside P →
+    ((μ : Marking) → L1 P μ ≤ β μ) → ((μ : Marking) → β μ ≤ bound P caps μ) → Sound (rulesBy P caps β γ)
 unfolding rulesBy cutLine
-rules-by-sound P caps β i low high =
+rules-by-sound P caps β γ i low high =
     record {
       beginning = λ τ ν b f.
           let x = begins-extends P b in
@@ -108,4 +110,4 @@ rules-by-sound P caps β i low high =
 pub rules-sound : (P : Pattern) (caps : Caps) → Inside P → Sound (rulesOf P caps)
 unfolding rulesOf rulesBy
 rules-sound P caps i =
-    rules-by-sound P caps (bound P caps) i (L1-below-bound P caps) (λ μ. omega arith)
+    rules-by-sound P caps (bound P caps) (looks P) i (L1-below-bound P caps) (λ μ. omega arith)

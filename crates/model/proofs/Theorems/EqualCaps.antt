@@ -12,8 +12,8 @@ use Rattle.model.specs.Pattern.{Pattern, lineTotal}
 use Rattle.model.specs.Split.{bothCaps, unequal}
 use Rattle.model.specs.Marking.{valid}
 use Rattle.model.specs.Bound.{struck, L3, bound}
-use Rattle.model.specs.Walk.{Record, rulesOf, givesPart, oneAllowed, afterZero, advance, tried, improved, stands, outcome, tryOnce, step, walk, walked}
-use Rattle.model.specs.OneCap.{validUnder, struckUnder, boundUnder, standsUnder, advanceUnder, outcomeUnder, stepUnder, walkedUnder}
+use Rattle.model.specs.Walk.{Record, rulesOf, givesPart, oneAllowed, afterZero, advance, tried, improved, looksAt, stands, outcome, tryOnce, step, walk, walked}
+use Rattle.model.specs.OneCap.{validUnder, struckUnder, boundUnder, standsUnder, advanceUnder, looksUnder, outcomeUnder, stepUnder, walkedUnder}
 
 -- equal caps are not unequal
 equal-not : (cap : ℕ) → unequal (bothCaps cap) ≡ false
@@ -38,11 +38,12 @@ module _ (P : Pattern) (cap : ℕ) where
   unfolding rulesOf
   advance-equal τ = ap (λ (first : Bool). advance first τ) (equal-not cap) ∙ advance-same τ
 
-  outcome-same : (up shorter : Bool) (r : Record) → outcome (rulesOf P (bothCaps cap)) up shorter r ≡ outcomeUnder up shorter r
-  unfolding outcome outcomeUnder
+  outcome-same :
+      (up shorter : Bool) (r : Record) → outcome (rulesOf P (bothCaps cap)) up shorter r ≡ outcomeUnder (looksUnder P cap r) up shorter r
+  unfolding outcome outcomeUnder rulesOf looksAt looksUnder valid validUnder
   outcome-same true true r = refl
-  outcome-same true false r = ap (tried (improved r)) (advance-equal (r .trail))
-  outcome-same false shorter r = ap (tried r) (advance-equal (r .trail))
+  outcome-same true false r = ap (tried (looksUnder P cap r) (improved r)) (advance-equal (r .trail))
+  outcome-same false shorter r = ap (tried (looksUnder P cap r) r) (advance-equal (r .trail))
 
   step-same : (r : Record) → step (rulesOf P (bothCaps cap)) r ≡ stepUnder P cap r
   unfolding step tryOnce stands rulesOf stepUnder standsUnder validUnder boundUnder struckUnder valid bound L3 struck

@@ -20,17 +20,19 @@ use Rattle.model.specs.Calls.{runVerdict, showVerdict, ended, ranRecord,
 
 -- a run that ended is no refused one
 pub ended-not :
-    {A : Type 0} (done : Bool) (word : Word) (place : ℕ) → ended done ≡ run-answer.Refused word place → A
+    {A : Type 0} (done : Bool) (looks : ℕ) (word : Word) (place : ℕ) → ended done looks ≡ run-answer.Refused word place → A
 unfolding ended
-ended-not true word place e = never (cc)
-ended-not false word place e = never (cc)
+ended-not true looks word place e = never (cc)
+ended-not false looks word place e = never (cc)
 
 run-by-verdict :
     (v : Verdict) (s : Search) (P : Pattern) (budget : ℕ) (word : Word) (place : ℕ) →
     ranAfter v s P budget .answer ≡ run-answer.Refused word place →
     (v ≡ Refused word place) × (ranAfter v s P budget .search ≡ s)
 unfolding ranAfter
-run-by-verdict Accepted s P budget word place e = ended-not (ranRecord (recordOf s) P budget .complete) word place e
+run-by-verdict Accepted s P budget word place e =
+    let r = ranRecord (recordOf s) P budget in
+    ended-not (r .complete) (r .looks) word place e
 run-by-verdict (Refused other at) s P budget word place e = (cc, refl)
 
 -- a refused run leaves the search as it was

@@ -18,7 +18,7 @@ use Rattle.model.specs.Pattern.{Pattern, patternOf}
 use Rattle.model.specs.Split.{capFromPercent, restFromPercent}
 use Rattle.model.specs.Walk.{Record, rulesOf, floor}
 use Rattle.model.specs.State.{recordOf}
-use Rattle.model.specs.Calls.{runVerdict, showVerdict, capVerdict, capAfter, capCall, openCall, completeNumber, ended, ranRecord, ranAfter, runCall, shown, shownAfter, showCall, capReply, runReply, showReply, shownReply, openReplies, capReplies, runReplies, showReplies}
+use Rattle.model.specs.Calls.{runVerdict, showVerdict, capVerdict, capAfter, capCall, openCall, completeNumber, ranReply, ended, ranRecord, ranAfter, runCall, shown, shownAfter, showCall, capReply, runReply, showReply, shownReply, openReplies, capReplies, runReplies, showReplies}
 
 -- the cap from a percentage: the cap and the rest
 cap-by-verdict :
@@ -59,18 +59,20 @@ pub open-told :
 open-told m n nonzeros list caps e =
     (e, ap (λ (a : Opened). verdictReply (a .verdict)) e ∙ open-replies m n nonzeros list caps)
 
--- a run: complete 0 or 1
-ended-reply : (done : Bool) → runReply (ended done) ≡ given (completeNumber done ∷ [])
+-- a run: complete 0 or 1, and the looks
+ended-reply : (done : Bool) (looks : ℕ) → runReply (ended done looks) ≡ given (completeNumber done ∷ looks ∷ [])
 unfolding runReply ended
-ended-reply true = refl
-ended-reply false = refl
+ended-reply true looks = refl
+ended-reply false looks = refl
 
 pub run-by-verdict :
     (v : Verdict) (s : Search) (P : Pattern) (budget : ℕ) →
     runReply (ranAfter v s P budget .answer)
-    ≡ replyAfter v (given (completeNumber (ranRecord (recordOf s) P budget .complete) ∷ []))
-unfolding ranAfter replyAfter runReply
-run-by-verdict Accepted s P budget = ended-reply (ranRecord (recordOf s) P budget .complete)
+    ≡ replyAfter v (ranReply (ranRecord (recordOf s) P budget))
+unfolding ranAfter replyAfter runReply ranReply
+run-by-verdict Accepted s P budget =
+    let r = ranRecord (recordOf s) P budget in
+    ended-reply (r .complete) (r .looks)
 run-by-verdict (Refused word place) s P budget = refl
 
 pub run-replies :

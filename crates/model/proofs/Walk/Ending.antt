@@ -6,7 +6,7 @@ use Prim.Native.Nat.{ℕ, zero, suc, _+_, _*_, _-_, _/_, _^_, _≤_}
 use native.Mathlib.Omega.{arith}
 use lib.ListN.{length}
 use Rattle.model.specs.declared.Caps.{Caps}
-use Rattle.model.specs.Walk.{Record, Rules, fresh, advance, isEmpty, tried, improved, tryOnce, step, walk}
+use Rattle.model.specs.Walk.{Record, Rules, fresh, advance, isEmpty, tried, improved, looksAt, tryOnce, step, walk}
 use Rattle.counting.proofs.Joined.{no-way, clash}
 use Rattle.model.proofs.Walk.Steps.{after, try-keeps, step-stays, step-tries, walk-keeps}
 use Rattle.model.proofs.Walk.Left.{size, later, left, three-sizes, advance-length, gives-up-left, grows-left, some-left}
@@ -40,7 +40,7 @@ try-paced R r going p =
     some-marks : isEmpty (r .trail) ≡ false
     some-marks = sym (p .ended) ∙ going
 
-    passed : Paced R (tried r (advance (R .oneFirst) (r .trail)))
+    passed : Paced R (tried (looksAt R (r .trail)) r (advance (R .oneFirst) (r .trail)))
     passed =
         record {
           within = omega (arith, p .within, advance-length (R .oneFirst) (r .trail));

@@ -4,18 +4,21 @@ use mathlib.Core.Bool.{Bool, true, false, not}
 use mathlib.Core.List.{List}
 use mathlib.Core.Option.{Option, some, none}
 use mathlib.Core.Path.{_≡_, refl, sym, _∙_, ap}
-use Prim.Native.Nat.{ℕ, zero, suc, _+_, _≤_}
+use Prim.Native.Nat.{ℕ, zero, suc, _+_, _*_, _≤_}
+use native.Mathlib.Nat.{mul-assoc}
+use native.Mathlib.Omega.{arith}
 use lib.Dec.{leb}
 use borrow.Author.Tests.{le-leb, eq-eqb}
 use Rattle.model.specs.declared.Caps.{Caps}
 use Rattle.model.specs.Limits.{triesLimit}
 use Rattle.model.specs.Split.{capsOutside}
 use Rattle.model.specs.Walk.{Record, Rules, fresh, isEmpty, tried, improved, tryOnce}
-use Rattle.model.specs.State.{trailFine, bestFine, stateFine}
+use Rattle.model.specs.State.{trailFine, bestFine, countsFine, stateFine}
 use Rattle.counting.proofs.Joined.{and-intro, never}
 use Rattle.model.proofs.Walk.Sound.{Sound, empty-valid}
 use Rattle.model.proofs.Walk.Steps.{after, try-keeps, walk-keeps}
 use Rattle.model.proofs.Walk.Legal.{Legal, Orderly, BestIs, walk-orderly}
+use Rattle.model.proofs.Walk.Looked.{Looked, LooksMost, reached-looked}
 use Rattle.model.proofs.Walk.Exact.{Exact, complete-exact}
 
 -- a record for this m, n, number of nonzeros and caps
@@ -63,10 +66,10 @@ best-fine R none count complete b found = and-intro (eq-eqb _ _ b) (ap not (foun
 
 -- an orderly record within the limits is not refused, if it has a best marking where it is complete
 pub orderly-fine : {R : Rules} {m n nonzeros : ℕ} {caps : Caps} (r : Record) → For m n nonzeros caps r → Orderly R r
-    → nonzeros ≤ caps .cap0 + caps .cap1 → capsOutside caps ≡ false → r .tries ≤ triesLimit → (r .best ≡ none → r .complete ≡ false)
+    → nonzeros ≤ caps .cap0 + caps .cap1 → capsOutside caps ≡ false → r .tries ≤ triesLimit → Looked (m * nonzeros) r → (r .best ≡ none → r .complete ≡ false)
     → stateFine R m n nonzeros r ≡ true
-unfolding stateFine
-orderly-fine {R} {m} {n} {nonzeros} {caps} r h o enough small few found =
+unfolding stateFine countsFine
+orderly-fine {R} {m} {n} {nonzeros} {caps} r h o enough small few looked found =
     and-intro
     (and-intro
     (and-intro
@@ -75,7 +78,9 @@ orderly-fine {R} {m} {n} {nonzeros} {caps} r h o enough small few found =
     (and-intro (and-intro (eq-eqb _ _ (h .rows)) (eq-eqb _ _ (h .columns))) (eq-eqb _ _ (h .size)))
     (ap (λ (c : Caps). leb nonzeros (c .cap0 + c .cap1)) (h .limits) ∙ le-leb nonzeros (caps .cap0 + caps .cap1) enough))
     (ap (λ (c : Caps). not (capsOutside c)) (h .limits) ∙ ap not small))
-    (le-leb (r .tries) triesLimit few))
+    (and-intro
+    (le-leb (r .tries) triesLimit few)
+    (le-leb (r .looks) (r .tries * m * nonzeros) (omega (arith, looked .few, mul-assoc (r .tries) m nonzeros)))))
     (trail-fine R (r .complete) (r .trail) (o .legal) (o .ended)))
     (best-fine R (r .best) (r .bestCount) (r .complete) (o .found) found)
 
@@ -95,9 +100,9 @@ none-going {R} m n nonzeros caps tries S missing = go (after R m n nonzeros caps
 -- a state that a walk reaches is not refused, within the limit on tries
 pub reached-fine :
     {R : Rules} (m n nonzeros : ℕ) (caps : Caps) (tries : ℕ) →
-    Sound R → nonzeros ≤ caps .cap0 + caps .cap1 → capsOutside caps ≡ false → after R m n nonzeros caps tries .tries ≤ triesLimit →
+    Sound R → LooksMost R (m * nonzeros) → nonzeros ≤ caps .cap0 + caps .cap1 → capsOutside caps ≡ false → after R m n nonzeros caps tries .tries ≤ triesLimit →
     stateFine R m n nonzeros (after R m n nonzeros caps tries) ≡ true
-reached-fine {R} m n nonzeros caps tries S enough small few =
+reached-fine {R} m n nonzeros caps tries S looks enough small few =
     orderly-fine
     (after R m n nonzeros caps tries)
     (walk-for R m n nonzeros caps tries)
@@ -105,4 +110,5 @@ reached-fine {R} m n nonzeros caps tries S enough small few =
     enough
     small
     few
+    (reached-looked R looks m n nonzeros caps tries)
     (none-going m n nonzeros caps tries S)

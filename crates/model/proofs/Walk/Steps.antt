@@ -10,7 +10,7 @@ use lib.ListN.{length}
 use borrow.Author.Tests.{ltb-true, ltb-false}
 use Rattle.counting.specs.Tests.{pick}
 use Rattle.model.specs.declared.Caps.{Caps}
-use Rattle.model.specs.Walk.{Record, Rules, fresh, advance, tried, improved, stands, outcome, tryOnce, step, walk}
+use Rattle.model.specs.Walk.{Record, Rules, fresh, advance, tried, improved, looksAt, stands, outcome, tryOnce, step, walk}
 
 -- the walk from a fresh record after so many tries
 abbrev pub after : Rules → ℕ → ℕ → ℕ → Caps → ℕ → Record
@@ -18,9 +18,9 @@ after R m n nonzeros caps tries = walk R tries (fresh m n nonzeros caps (R .k))
 
 -- a fact that holds after each of a try's three outcomes: the trail grows, becomes the best marking, or is given up
 pub try-keeps : (R : Rules) (r : Record) (P : Record → Type 0)
-    → (stands R r ≡ true → length (r .trail) < R .k → P (tried r (0 ∷ r .trail)))
-    → (stands R r ≡ true → R .k ≤ length (r .trail) → P (tried (improved r) (advance (R .oneFirst) (r .trail))))
-    → (stands R r ≡ false → P (tried r (advance (R .oneFirst) (r .trail))))
+    → (stands R r ≡ true → length (r .trail) < R .k → P (tried (looksAt R (r .trail)) r (0 ∷ r .trail)))
+    → (stands R r ≡ true → R .k ≤ length (r .trail) → P (tried (looksAt R (r .trail)) (improved r) (advance (R .oneFirst) (r .trail))))
+    → (stands R r ≡ false → P (tried (looksAt R (r .trail)) r (advance (R .oneFirst) (r .trail))))
     → P (tryOnce R r)
 unfolding tryOnce outcome
 try-keeps R r P grows betters gives-up =

@@ -19,11 +19,10 @@ ghost use Rattle.counting.specs.Tests.{_and_};
 ghost use Rattle.model.specs.Limits.{triesLimit};
 ghost use Rattle.model.specs.declared.Verdict.the-variants.{Accepted};
 ghost use Rattle.model.specs.Pattern.{patternOf};
-ghost use Rattle.model.specs.Walk.{Record, rulesOf, walk};
+ghost use Rattle.model.specs.Walk.{rulesOf, walk};
 ghost use Rattle.model.specs.State.{capsIn, recordOf, searchOf};
 ghost use Rattle.model.specs.Calls.{listVerdict, ended, ranAfter, runCall};
-ghost use Rattle.state.specs.Holding.{normalOf};
-ghost use Rattle.state.specs.Ready.{Fits, Ready};
+ghost use Rattle.search.specs.Trying.{Tryable};
 ghost use Rattle.search.specs.Running.{budgetBy};
 
 // Tries are left, and the search is not complete.
@@ -48,10 +47,9 @@ fn run_from(
     k: u16,
     budget: u64,
 ) -> Search
-    requires { ⌜ search .tries + budget ≤ triesLimit ⌝ }
-    ensures { λ s. ⌜ (Ready m n nonzeros (now (list .entry)) (now (places .entry)) (now (starts .entry)) k →
-        (r : Record) → search ≡ searchOf r → Fits k r →
-        s ≡ searchOf (walk (rulesOf (patternOf m n nonzeros (now (list .entry))) (capsIn search)) budget r)) ⌝ }
+    requires { ⌜ (search .tries + budget ≤ triesLimit) × (search ≡ searchOf (recordOf search))
+        × Tryable m n nonzeros (now list) (now places) (now starts) k search ⌝ }
+    ensures { λ s. ⌜ s ≡ searchOf (walk (rulesOf (patternOf m n nonzeros (now (list .entry))) (capsIn search)) budget (recordOf search)) ⌝ }
 {
     let mut s = search;
     let mut made = 0u64;
@@ -69,23 +67,23 @@ fn budget_verdict(tries: u64, budget: u64) -> Verdict
     if 1_000_000 < budget {
         return Verdict::Refused(Word::Budget, 0);
     }
-    if 1_000_000_000_000_000 < tries {
+    if 10_000_000_000_000 < tries {
         return Verdict::Refused(Word::Budget, 0);
     }
-    if 1_000_000_000_000_000 < tries + budget {
+    if 10_000_000_000_000 < tries + budget {
         return Verdict::Refused(Word::Budget, 0);
     }
     Verdict::Accepted
 }
 
-// Complete, or stopped otherwise.
-fn ended_as(complete: bool) -> RunAnswer
-    ensures { λ r. ⌜ r ≡ ended complete ⌝ }
+// Complete, or stopped otherwise, with the looks since the fresh search.
+fn ended_as(complete: bool, looks: u64) -> RunAnswer
+    ensures { λ r. ⌜ r ≡ ended complete looks ⌝ }
 {
     if complete {
-        return RunAnswer::Complete;
+        return RunAnswer::Complete { looks };
     }
-    RunAnswer::Stopped
+    RunAnswer::Stopped { looks }
 }
 
 // A run of a state that is not refused.
@@ -100,16 +98,15 @@ fn run_fine(
     k: u16,
     budget: u64,
 ) -> Ran
-    ensures { λ a. ⌜ (Ready rows columns size (now (list .entry)) (now (places .entry)) (now (starts .entry)) k →
-        Fits k (recordOf search) → normalOf search ≡ searchOf (recordOf search) →
-        a ≡ ranAfter (budgetBy (search .tries) budget) search (patternOf rows columns size (now (list .entry))) budget) ⌝ }
+    requires { ⌜ Tryable rows columns size (now list) (now places) (now starts) k search ⌝ }
+    ensures { λ a. ⌜ a ≡ ranAfter (budgetBy (search .tries) budget) search (patternOf rows columns size (now (list .entry))) budget ⌝ }
 {
     let verdict = budget_verdict(search.tries, budget);
     match verdict {
         Verdict::Accepted => {
             let from = normal(search);
             let after = run_from(from, rows, columns, size, list, places, starts, k, budget);
-            let answer = ended_as(after.complete);
+            let answer = ended_as(after.complete, after.looks);
             Ran {
                 answer,
                 search: after,

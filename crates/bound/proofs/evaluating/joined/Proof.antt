@@ -52,6 +52,7 @@ returns c = λ P caps μ p.
       struck-is = λ v. p .struck-is;
       matched-is = λ v. p .matched-is;
       bound-is = λ v. bound-sum _ p sum;
+      looks-is = λ v. p .looks-is;
       none = λ v. clash refl v;
     }
 

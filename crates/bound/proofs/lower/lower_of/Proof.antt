@@ -61,14 +61,15 @@ returns c =
           weights
           (first .result)
           (second .result)
-          (c .matched-of .result)
           (a .zero-room)
           (a .one-room)
+          (c .matched-of .result)
           (w .ensures)
           (first .ensures)
           (second .ensures)
           (c .matched-of .ensures .0)
           _
+          refl
           refl
           refl,
     )

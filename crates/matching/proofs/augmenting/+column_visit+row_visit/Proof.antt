@@ -1,14 +1,16 @@
--- `matching::augmenting::column_visit` and `matching::augmenting::row_visit`, which call each other, meet their contracts. What each need says of the two visits stands in Visits.Code.
--- The measure is twice the columns that are not entered, and one more for a row. The loop's invariant: what is left of the row's nonzeros decides the visit.
+-- `matching::augmenting::column_visit` and `matching::augmenting::row_visit`, which call each other, meet their contracts. What each need says of the two visits stands in Visits.Column and Visits.Row.
+-- The measure is twice the columns that are not entered, and one more for a row. The loop's invariant: looks are paid for by nonzeros and columns, and what is left of the row's nonzeros decides the visit.
 -- Assumes nothing.
 use borrow.Author.Needs.{needs}
-use Prim.Native.Nat.{ℕ, _<_, _+_, _*_, _-_, _≤_}
+use Prim.Native.Nat.{ℕ, _+_, _-_, _*_, _≤_, _<_}
 use mathlib.Core.Path.{_≡_, _∙_, ap}
 use mathlib.Core.Logic.{⊎-elim}
 use native.Mathlib.Omega.{arith}
-use lib.ListN.{length, length-set}
-use Rattle.matching.specs.Augmenting.{ground, unseen, through, visitColumn, visitRow}
-use Rattle.matching.proofs.Visits.Code.{column-long, column-fewer, enter-fewer, at-entered, at-free, at-found, at-not, row-begins, row-ends, turn-skips, turn-found, turn-goes}
+use lib.ListN.{length, set, length-set}
+use Rattle.matching.specs.Augmenting.{ground, unseen, rowRoom, sideRoom}
+use Rattle.matching.proofs.Visits.Arrays.{unseen-most}
+use Rattle.matching.proofs.Visits.Column.{ColumnAt, enter-fewer, at-entered, at-free, at-found, at-not}
+use Rattle.matching.proofs.Visits.Row.{Rest, Turn, Nonzero, row-begins, from-none, from-pass, from-take, rest-begins, rest-ends, rest-skips, rest-found, rest-goes}
 use borrow.Fn.Kinds.{In}
 use borrow.Fn.PlainCycle.{Measures, is, falls, and}
 use Rattle.matching.proofs.augmenting.column_visit.Reads as column-visit
@@ -50,497 +52,314 @@ abbrev row-visit-below : ℕ → In 5 row-visit-kinds.ps
 row-visit-below t =
     and 5 row-visit-kinds.ps (falls 5 row-visit-kinds.ps _<_ μ-row-visit t) row-visit.Pre
 
-column-visit-wide-requires : (t : ℕ) → column-visit-lts.Need-wide-requires (
-  wide-reads.Asked,
-  wide-reads.Learnt,
-  row-visit-below t,
-  row-visit.Post,
-) (column-visit-at t) column-visit.Post
+-- what the functions that a visit calls promise, the other visit for a lesser measure
+abbrev column-claims : ℕ → column-visit-lts.Claims
+column-claims t = (wide-reads.Asked, wide-reads.Learnt, row-visit-below t, row-visit.Post)
+
+abbrev row-claims : ℕ → row-visit-lts.Claims
+row-claims t = (
+  first-of-reads.Asked,
+  first-of-reads.Learnt,
+  end-of-reads.Asked,
+  end-of-reads.Learnt,
+  column-of-reads.Asked,
+  column-of-reads.Learnt,
+  at-odds-reads.Asked,
+  at-odds-reads.Learnt,
+  column-visit-below t,
+  column-visit.Post,
+)
+
+-- what a visit of a column knows once its number is read
+column-at :
+    (t : ℕ) (c : column-visit-lts.After-wide (column-claims t) (column-visit-at t) column-visit.Post) →
+    let a = c .before .before .args in
+    ColumnAt (ground (a .lean .now) (a .m) (a .list .now) (a .starts .now)) (c .wide .result) (a .j) (a .i) (a .seen .now) (a .mate .now)
+column-at t c =
+    let s = c .before .before in
+    record {
+      same = c .wide .ensures .0;
+      seen-long = s .pre .1 .0;
+      mate-long = s .pre .1 .1;
+      column-in = c .wide .ensures .1;
+      row-in = omega (arith, s .fits);
+    }
+
+column-visit-wide-requires : (t : ℕ) → column-visit-lts.Need-wide-requires (column-claims t) (column-visit-at t) column-visit.Post
 column-visit-wide-requires t c κs = search needs
 
-column-visit-element-copy-out-if1 : (t : ℕ) → column-visit-lts.Need-element-copy-out-if1 (
-  wide-reads.Asked,
-  wide-reads.Learnt,
-  row-visit-below t,
-  row-visit.Post,
-) (column-visit-at t) column-visit.Post
+column-visit-element-copy-out-if1 : (t : ℕ) → column-visit-lts.Need-element-copy-out-if1 (column-claims t) (column-visit-at t) column-visit.Post
 column-visit-element-copy-out-if1 t c = search needs
 
-column-visit-returns : (t : ℕ) → column-visit-lts.Need-returns (
-  wide-reads.Asked,
-  wide-reads.Learnt,
-  row-visit-below t,
-  row-visit.Post,
-) (column-visit-at t) column-visit.Post
+column-visit-returns : (t : ℕ) → column-visit-lts.Need-returns (column-claims t) (column-visit-at t) column-visit.Post
 column-visit-returns t c =
-    let a = c .before .before .before .before .args in
-    let w = c .before .before .wide in
-    let G = ground (a .lean .now) (a .m) (a .list .now) (a .starts .now) in
     at-entered
-    G
-    (w .result)
-    (a .j)
-    (a .i)
-    (a .seen .now)
-    (a .mate .now)
-    (w .ensures .0)
-    (c .before .before .before .before .pre .1)
-    (w .ensures .1)
+    (column-at t (c .before .before))
     (c .if1 .taken)
 
-column-visit-element-write-seen : (t : ℕ) → column-visit-lts.Need-element-write-seen (
-  wide-reads.Asked,
-  wide-reads.Learnt,
-  row-visit-below t,
-  row-visit.Post,
-) (column-visit-at t) column-visit.Post
+column-visit-element-write-seen : (t : ℕ) → column-visit-lts.Need-element-write-seen (column-claims t) (column-visit-at t) column-visit.Post
 column-visit-element-write-seen t c = search needs
 
-column-visit-mul-held : (t : ℕ) → column-visit-lts.Need-mul-held (
-  wide-reads.Asked,
-  wide-reads.Learnt,
-  row-visit-below t,
-  row-visit.Post,
-) (column-visit-at t) column-visit.Post
+column-visit-mul-held : (t : ℕ) → column-visit-lts.Need-mul-held (column-claims t) (column-visit-at t) column-visit.Post
 column-visit-mul-held t c = search needs
 
-column-visit-element-copy-out-held : (t : ℕ) → column-visit-lts.Need-element-copy-out-held (
-  wide-reads.Asked,
-  wide-reads.Learnt,
-  row-visit-below t,
-  row-visit.Post,
-) (column-visit-at t) column-visit.Post
+column-visit-element-copy-out-held : (t : ℕ) → column-visit-lts.Need-element-copy-out-held (column-claims t) (column-visit-at t) column-visit.Post
 column-visit-element-copy-out-held t c = search needs
 
-column-visit-add-mate : (t : ℕ) → column-visit-lts.Need-add-mate (
-  wide-reads.Asked,
-  wide-reads.Learnt,
-  row-visit-below t,
-  row-visit.Post,
-) (column-visit-at t) column-visit.Post
+column-visit-add-mate : (t : ℕ) → column-visit-lts.Need-add-mate (column-claims t) (column-visit-at t) column-visit.Post
 column-visit-add-mate t c = search needs
 
-column-visit-mul-mate : (t : ℕ) → column-visit-lts.Need-mul-mate (
-  wide-reads.Asked,
-  wide-reads.Learnt,
-  row-visit-below t,
-  row-visit.Post,
-) (column-visit-at t) column-visit.Post
+column-visit-mul-mate : (t : ℕ) → column-visit-lts.Need-mul-mate (column-claims t) (column-visit-at t) column-visit.Post
 column-visit-mul-mate t c = search needs
 
-column-visit-element-write-mate : (t : ℕ) → column-visit-lts.Need-element-write-mate (
-  wide-reads.Asked,
-  wide-reads.Learnt,
-  row-visit-below t,
-  row-visit.Post,
-) (column-visit-at t) column-visit.Post
+column-visit-element-write-mate : (t : ℕ) → column-visit-lts.Need-element-write-mate (column-claims t) (column-visit-at t) column-visit.Post
 column-visit-element-write-mate t c = search needs
 
-column-visit-returns-2 : (t : ℕ) → column-visit-lts.Need-returns-2 (
-  wide-reads.Asked,
-  wide-reads.Learnt,
-  row-visit-below t,
-  row-visit.Post,
-) (column-visit-at t) column-visit.Post
+column-visit-returns-2 : (t : ℕ) → column-visit-lts.Need-returns-2 (column-claims t) (column-visit-at t) column-visit.Post
 column-visit-returns-2 t c =
-    let a = c .before .before .before .before .before .before .args in
-    let w = c .before .before .before .before .wide in
-    let G = ground (a .lean .now) (a .m) (a .list .now) (a .starts .now) in
     at-free
-    G
-    (w .result)
-    (a .j)
-    (a .i)
-    (a .seen .now)
-    (a .mate .now)
-    (w .ensures .0)
-    (c .before .before .before .before .before .before .pre .1)
-    (w .ensures .1)
+    (column-at t (c .before .before .before .before))
     (c .before .before .if1 .left)
     (omega arith)
 
-column-visit-sub-r : (t : ℕ) → column-visit-lts.Need-sub-r (
-  wide-reads.Asked,
-  wide-reads.Learnt,
-  row-visit-below t,
-  row-visit.Post,
-) (column-visit-at t) column-visit.Post
+column-visit-sub-r : (t : ℕ) → column-visit-lts.Need-sub-r (column-claims t) (column-visit-at t) column-visit.Post
 column-visit-sub-r t c = search needs
 
-column-visit-cast-r : (t : ℕ) → column-visit-lts.Need-cast-r (
-  wide-reads.Asked,
-  wide-reads.Learnt,
-  row-visit-below t,
-  row-visit.Post,
-) (column-visit-at t) column-visit.Post
+column-visit-cast-r : (t : ℕ) → column-visit-lts.Need-cast-r (column-claims t) (column-visit-at t) column-visit.Post
 column-visit-cast-r t c = search needs
 
-column-visit-row-visit-requires : (t : ℕ) → column-visit-lts.Need-row-visit-requires (
-  wide-reads.Asked,
-  wide-reads.Learnt,
-  row-visit-below t,
-  row-visit.Post,
-) (column-visit-at t) column-visit.Post
+column-visit-row-visit-requires : (t : ℕ) → column-visit-lts.Need-row-visit-requires (column-claims t) (column-visit-at t) column-visit.Post
 column-visit-row-visit-requires t c κs =
-    let a = c .before .before .before .before .before .before .before .before .args in
-    let w = c .before .before .before .before .before .before .wide in
-    let G = ground (a .lean .now) (a .m) (a .list .now) (a .starts .now) in
-    (omega (arith, c .before .before .before .before .before .before .before .before .pre .0, enter-fewer (w .result) (a .seen .now) (c .before .before .before .before .before .before .before .before .pre .1) (w .ensures .1) (c .before .before .before .before .if1 .left)), simp length-set (c .before .before .before .before .before .before .before .before .pre .1))
+    let s = c .before .before .before .before .before .before .before .before in
+    let at = column-at t (c .before .before .before .before .before .before) in
+    let fewer = enter-fewer at (c .before .before .before .before .if1 .left) in
+    (omega (arith, s .pre .0, fewer), (length-set (s .args .seen .now) _ 1 ∙ s .pre .1 .0, s .pre .1 .1))
 
-column-visit-add-mate-2 : (t : ℕ) → column-visit-lts.Need-add-mate-2 (
-  wide-reads.Asked,
-  wide-reads.Learnt,
-  row-visit-below t,
-  row-visit.Post,
-) (column-visit-at t) column-visit.Post
+column-visit-add-looks : (t : ℕ) → column-visit-lts.Need-add-looks (column-claims t) (column-visit-at t) column-visit.Post
+column-visit-add-looks t c =
+    let v = c .before .row-visit in
+    let s = c .before .before .before .before .before .before .before .before .before .before in
+    let a = s .args in
+    let w = c .before .before .before .before .before .before .before .before .wide in
+    record {
+      fits = omega (
+        arith,
+        v .ensures .paid,
+        unseen-most (set (a .seen .now) (w .result) 1),
+        length-set (a .seen .now) (w .result) 1,
+        s .pre .1 .0,
+      );
+    }
+
+column-visit-add-mate-2 : (t : ℕ) → column-visit-lts.Need-add-mate-2 (column-claims t) (column-visit-at t) column-visit.Post
 column-visit-add-mate-2 t c = search needs
 
-column-visit-mul-mate-2 : (t : ℕ) → column-visit-lts.Need-mul-mate-2 (
-  wide-reads.Asked,
-  wide-reads.Learnt,
-  row-visit-below t,
-  row-visit.Post,
-) (column-visit-at t) column-visit.Post
+column-visit-mul-mate-2 : (t : ℕ) → column-visit-lts.Need-mul-mate-2 (column-claims t) (column-visit-at t) column-visit.Post
 column-visit-mul-mate-2 t c = search needs
 
-column-visit-element-write-mate-2 : (t : ℕ) → column-visit-lts.Need-element-write-mate-2 (
-  wide-reads.Asked,
-  wide-reads.Learnt,
-  row-visit-below t,
-  row-visit.Post,
-) (column-visit-at t) column-visit.Post
+column-visit-element-write-mate-2 : (t : ℕ) → column-visit-lts.Need-element-write-mate-2 (column-claims t) (column-visit-at t) column-visit.Post
 column-visit-element-write-mate-2 t c = search needs
 
-column-visit-returns-3 : (t : ℕ) → column-visit-lts.Need-returns-3 (
-  wide-reads.Asked,
-  wide-reads.Learnt,
-  row-visit-below t,
-  row-visit.Post,
-) (column-visit-at t) column-visit.Post
+column-visit-returns-3 : (t : ℕ) → column-visit-lts.Need-returns-3 (column-claims t) (column-visit-at t) column-visit.Post
 column-visit-returns-3 t c =
-    let a = c .before .before .before .before .before .before .before .before .before .before .args in
-    let w = c .before .before .before .before .before .before .before .before .wide in
-    let G = ground (a .lean .now) (a .m) (a .list .now) (a .starts .now) in
-    let v = c .before .row-visit in
+    let v = c .before .before .row-visit in
     at-found
-    G
-    (w .result)
-    (a .j)
-    (a .i)
-    (a .seen .now)
-    (a .mate .now)
-    (w .ensures .0)
-    (c .before .before .before .before .before .before .before .before .before .before .pre .1)
-    (w .ensures .1)
+    (column-at t (c .before .before .before .before .before .before .before .before .before))
+    (c .before .before .before .before .before .before .before .if1 .left)
+    (c .before .before .before .before .before .if2 .left)
     (v .result)
     (v .last .1 .1 .1 .1 .1 .0)
     (v .last .1 .1 .1 .1 .1 .1 .0)
-    (c .before .before .before .before .before .before .if1 .left)
-    (c .before .before .before .before .if2 .left)
     (v .ensures)
     (c .if3 .taken)
 
-column-visit-returns-4 : (t : ℕ) → column-visit-lts.Need-returns-4 (
-  wide-reads.Asked,
-  wide-reads.Learnt,
-  row-visit-below t,
-  row-visit.Post,
-) (column-visit-at t) column-visit.Post
+column-visit-returns-4 : (t : ℕ) → column-visit-lts.Need-returns-4 (column-claims t) (column-visit-at t) column-visit.Post
 column-visit-returns-4 t c =
-    let a = c .before .before .before .before .before .before .before .before .before .before .args in
-    let w = c .before .before .before .before .before .before .before .before .wide in
-    let G = ground (a .lean .now) (a .m) (a .list .now) (a .starts .now) in
-    let v = c .before .row-visit in
+    let v = c .before .before .row-visit in
     at-not
-    G
-    (w .result)
-    (a .j)
-    (a .i)
-    (a .seen .now)
-    (a .mate .now)
-    (w .ensures .0)
-    (c .before .before .before .before .before .before .before .before .before .before .pre .1)
-    (w .ensures .1)
+    (column-at t (c .before .before .before .before .before .before .before .before .before))
+    (c .before .before .before .before .before .before .before .if1 .left)
+    (c .before .before .before .before .before .if2 .left)
     (v .result)
     (v .last .1 .1 .1 .1 .1 .0)
     (v .last .1 .1 .1 .1 .1 .1 .0)
-    (c .before .before .before .before .before .before .if1 .left)
-    (c .before .before .before .before .if2 .left)
     (v .ensures)
     (c .if3 .left)
 
 abbrev row-visit-Inv-loop : row-visit-lts.InvT-loop
-row-visit-Inv-loop lean m list starts i seen₀ mate₀ t₀ end seen mate t =
-    (length seen ≡ 256)
-    × (unseen seen ≤ unseen seen₀)
-    × (visitRow (ground lean m list starts) i seen₀ mate₀ ≡ through (ground lean m list starts) (visitColumn (ground lean m list starts)) i (end - t) t seen mate)
+row-visit-Inv-loop lean m list starts i seen₀ mate₀ t₀ end looks₀ seen mate t looks =
+    (length seen ≡ sideRoom)
+    × (length mate ≡ sideRoom)
+    × (t < rowRoom)
+    × (looks + rowRoom * unseen seen ≤ t + rowRoom * unseen seen₀)
+    × Rest (ground lean m list starts) i end seen₀ mate₀ t looks seen mate
 
 abbrev row-visit-μ-loop : row-visit-lts.MeasureT-loop
-row-visit-μ-loop lean m list starts i seen₀ mate₀ t₀ end seen mate t = end - t
+row-visit-μ-loop lean m list starts i seen₀ mate₀ t₀ end looks₀ seen mate t looks = end - t
 
-row-visit-first-of-requires : (t : ℕ) → row-visit-lts.Need-first-of-requires (
-  first-of-reads.Asked,
-  first-of-reads.Learnt,
-  end-of-reads.Asked,
-  end-of-reads.Learnt,
-  column-of-reads.Asked,
-  column-of-reads.Learnt,
-  at-odds-reads.Asked,
-  at-odds-reads.Learnt,
-  column-visit-below t,
-  column-visit.Post,
-) (row-visit-at t) row-visit.Post row-visit-Inv-loop row-visit-μ-loop
+-- what a visit of a row knows at the head of its loop
+row-turn :
+    (t : ℕ) (c : row-visit-lts.At-loop (row-claims t) (row-visit-at t) row-visit.Post row-visit-Inv-loop row-visit-μ-loop) →
+    let a = c .before .before .before .before .args in
+    let l = c .loop in
+    Turn (ground (a .lean .now) (a .m) (a .list .now) (a .starts .now)) (a .i) (c .before .end-of .result) (a .seen .now) (a .mate .now) (l .t) (l .looks) (l .seen) (l .mate)
+row-turn t c = record { rest = c .loop .inv .4 }
+
+-- and once it has tested whether it is at odds with a column
+row-nonzero :
+    (t : ℕ) (c : row-visit-lts.After-at-odds (row-claims t) (row-visit-at t) row-visit.Post row-visit-Inv-loop row-visit-μ-loop) →
+    let a = c .before .before .before .before .before .before .before .args in
+    Nonzero (ground (a .lean .now) (a .m) (a .list .now) (a .starts .now)) (a .i) (c .before .before .before .before .end-of .result) (c .before .before .before .loop .t) (c .before .column-of .result) (c .at-odds .result)
+row-nonzero t c =
+    record {
+      here = c .before .before .loop-test .taken;
+      same = c .before .column-of .ensures;
+      odds-are = c .at-odds .ensures;
+    }
+
+row-visit-first-of-requires : (t : ℕ) → row-visit-lts.Need-first-of-requires (row-claims t) (row-visit-at t) row-visit.Post row-visit-Inv-loop row-visit-μ-loop
 row-visit-first-of-requires t c κs = search needs
 
-row-visit-end-of-requires : (t : ℕ) → row-visit-lts.Need-end-of-requires (
-  first-of-reads.Asked,
-  first-of-reads.Learnt,
-  end-of-reads.Asked,
-  end-of-reads.Learnt,
-  column-of-reads.Asked,
-  column-of-reads.Learnt,
-  at-odds-reads.Asked,
-  at-odds-reads.Learnt,
-  column-visit-below t,
-  column-visit.Post,
-) (row-visit-at t) row-visit.Post row-visit-Inv-loop row-visit-μ-loop
+row-visit-end-of-requires : (t : ℕ) → row-visit-lts.Need-end-of-requires (row-claims t) (row-visit-at t) row-visit.Post row-visit-Inv-loop row-visit-μ-loop
 row-visit-end-of-requires t c κs = search needs
 
-row-visit-loop-holds : (t : ℕ) → row-visit-lts.Need-loop-holds (
-  first-of-reads.Asked,
-  first-of-reads.Learnt,
-  end-of-reads.Asked,
-  end-of-reads.Learnt,
-  column-of-reads.Asked,
-  column-of-reads.Learnt,
-  at-odds-reads.Asked,
-  at-odds-reads.Learnt,
-  column-visit-below t,
-  column-visit.Post,
-) (row-visit-at t) row-visit.Post row-visit-Inv-loop row-visit-μ-loop
+row-visit-loop-holds : (t : ℕ) → row-visit-lts.Need-loop-holds (row-claims t) (row-visit-at t) row-visit.Post row-visit-Inv-loop row-visit-μ-loop
 row-visit-loop-holds t c =
-    let a = c .before .before .before .args in
+    let s = c .before .before .before in
+    let a = s .args in
     let G = ground (a .lean .now) (a .m) (a .list .now) (a .starts .now) in
-    (c .before .before .before .pre .1, omega arith, row-begins G (a .i) (c .before .first-of .result) (c .end-of .result) (a .seen .now) (a .mate .now) (c .before .first-of .ensures) (c .end-of .ensures))
+    let first = c .before .first-of in
+    let last = c .end-of in (
+      s .pre .1 .0,
+      s .pre .1 .1,
+      omega arith,
+      omega arith,
+      rest-begins
+          G
+          (a .i)
+          (last .result)
+          (first .result)
+          (a .seen .now)
+          (a .mate .now)
+          (row-begins G (a .i) (first .result) (last .result) (omega (arith, s .fits)) (first .ensures) (last .ensures)),
+    )
 
-row-visit-column-of-requires : (t : ℕ) → row-visit-lts.Need-column-of-requires (
-  first-of-reads.Asked,
-  first-of-reads.Learnt,
-  end-of-reads.Asked,
-  end-of-reads.Learnt,
-  column-of-reads.Asked,
-  column-of-reads.Learnt,
-  at-odds-reads.Asked,
-  at-odds-reads.Learnt,
-  column-visit-below t,
-  column-visit.Post,
-) (row-visit-at t) row-visit.Post row-visit-Inv-loop row-visit-μ-loop
+row-visit-column-of-requires : (t : ℕ) → row-visit-lts.Need-column-of-requires (row-claims t) (row-visit-at t) row-visit.Post row-visit-Inv-loop row-visit-μ-loop
 row-visit-column-of-requires t c κs = search needs
 
-row-visit-at-odds-requires : (t : ℕ) → row-visit-lts.Need-at-odds-requires (
-  first-of-reads.Asked,
-  first-of-reads.Learnt,
-  end-of-reads.Asked,
-  end-of-reads.Learnt,
-  column-of-reads.Asked,
-  column-of-reads.Learnt,
-  at-odds-reads.Asked,
-  at-odds-reads.Learnt,
-  column-visit-below t,
-  column-visit.Post,
-) (row-visit-at t) row-visit.Post row-visit-Inv-loop row-visit-μ-loop
+row-visit-at-odds-requires : (t : ℕ) → row-visit-lts.Need-at-odds-requires (row-claims t) (row-visit-at t) row-visit.Post row-visit-Inv-loop row-visit-μ-loop
 row-visit-at-odds-requires t c κs = search needs
 
-row-visit-column-visit-requires : (t : ℕ) → row-visit-lts.Need-column-visit-requires (
-  first-of-reads.Asked,
-  first-of-reads.Learnt,
-  end-of-reads.Asked,
-  end-of-reads.Learnt,
-  column-of-reads.Asked,
-  column-of-reads.Learnt,
-  at-odds-reads.Asked,
-  at-odds-reads.Learnt,
-  column-visit-below t,
-  column-visit.Post,
-) (row-visit-at t) row-visit.Post row-visit-Inv-loop row-visit-μ-loop
-row-visit-column-visit-requires t c κs = search needs
+row-visit-column-visit-requires : (t : ℕ) → row-visit-lts.Need-column-visit-requires (row-claims t) (row-visit-at t) row-visit.Post row-visit-Inv-loop row-visit-μ-loop
+row-visit-column-visit-requires t c κs =
+    let s = c .before .before .before .before .before .before .before .before .before .before in
+    let a = s .args in
+    let l = c .before .before .before .before .before .before .loop in
+    (omega (arith, s .pre .0, l .inv .2, l .inv .3), (l .inv .0, l .inv .1))
 
-row-visit-returns : (t : ℕ) → row-visit-lts.Need-returns (
-  first-of-reads.Asked,
-  first-of-reads.Learnt,
-  end-of-reads.Asked,
-  end-of-reads.Learnt,
-  column-of-reads.Asked,
-  column-of-reads.Learnt,
-  at-odds-reads.Asked,
-  at-odds-reads.Learnt,
-  column-visit-below t,
-  column-visit.Post,
-) (row-visit-at t) row-visit.Post row-visit-Inv-loop row-visit-μ-loop
-row-visit-returns t c =
-    let a = c .before .before .before .before .before .before .before .before .before .before .before .before .args in
-    let G = ground (a .lean .now) (a .m) (a .list .now) (a .starts .now) in
-    let e = c .before .before .before .before .before .before .before .before .before .end-of in
+row-visit-add-looks : (t : ℕ) → row-visit-lts.Need-add-looks (row-claims t) (row-visit-at t) row-visit.Post row-visit-Inv-loop row-visit-μ-loop
+row-visit-add-looks t c =
+    let s = c .before .before .before .before .before .before .before .before .before .before .before .before in
     let l = c .before .before .before .before .before .before .before .before .loop in
-    let k = c .before .before .before .before .before .before .column-of in
-    let o = c .before .before .before .before .before .at-odds in
     let v = c .before .column-visit in
-    turn-found
-    G
-    (visitRow G (a .i) (a .seen .now) (a .mate .now))
-    (a .i)
-    (e .result)
-    (l .t)
-    (k .result)
-    (l .seen)
-    (l .mate)
-    (l .inv .2)
-    (c .before .before .before .before .before .before .before .loop-test .taken)
-    (k .ensures)
-    (o .result)
-    (o .ensures)
-    (v .result)
-    (v .last .1 .1 .1 .1 .1 .1 .0)
-    (v .last .1 .1 .1 .1 .1 .1 .1 .0)
-    (c .before .before .before .before .if1 .taken)
-    (v .ensures)
-    (c .if2 .taken)
+    record {
+      fits = omega (arith, v .ensures .paid, l .inv .2, l .inv .3, unseen-most (s .args .seen .now), s .pre .1 .0);
+    }
 
-row-visit-add-t : (t : ℕ) → row-visit-lts.Need-add-t (
-  first-of-reads.Asked,
-  first-of-reads.Learnt,
-  end-of-reads.Asked,
-  end-of-reads.Learnt,
-  column-of-reads.Asked,
-  column-of-reads.Learnt,
-  at-odds-reads.Asked,
-  at-odds-reads.Learnt,
-  column-visit-below t,
-  column-visit.Post,
-) (row-visit-at t) row-visit.Post row-visit-Inv-loop row-visit-μ-loop
+row-visit-returns : (t : ℕ) → row-visit-lts.Need-returns (row-claims t) (row-visit-at t) row-visit.Post row-visit-Inv-loop row-visit-μ-loop
+row-visit-returns t c =
+    let turn = c .before .before .before .before .before .before .before .before .before in
+    let l = turn .loop in
+    let odds = c .before .before .before .before .before .before in
+    let v = c .before .before .column-visit in
+    record {
+      seen-long = v .ensures .seen-long;
+      mate-long = v .ensures .mate-long;
+      paid = omega (arith, v .ensures .paid, l .inv .2, l .inv .3, odds .before .before .loop-test .taken);
+      is = rest-found
+          (row-turn t turn)
+          (odds .before .column-of .result)
+          (from-take (row-nonzero t odds) (c .before .before .before .before .before .if1 .taken))
+          (v .result)
+          (v .last .1 .1 .1 .1 .1 .1 .0)
+          (v .last .1 .1 .1 .1 .1 .1 .1 .0)
+          (v .ensures)
+          (omega (arith, l .inv .2, l .inv .3))
+          (c .if2 .taken);
+    }
+
+row-visit-add-t : (t : ℕ) → row-visit-lts.Need-add-t (row-claims t) (row-visit-at t) row-visit.Post row-visit-Inv-loop row-visit-μ-loop
 row-visit-add-t t c = search needs
 
-row-visit-loop-less : (t : ℕ) → row-visit-lts.Need-loop-less (
-  first-of-reads.Asked,
-  first-of-reads.Learnt,
-  end-of-reads.Asked,
-  end-of-reads.Learnt,
-  column-of-reads.Asked,
-  column-of-reads.Learnt,
-  at-odds-reads.Asked,
-  at-odds-reads.Learnt,
-  column-visit-below t,
-  column-visit.Post,
-) (row-visit-at t) row-visit.Post row-visit-Inv-loop row-visit-μ-loop
+row-visit-loop-less : (t : ℕ) → row-visit-lts.Need-loop-less (row-claims t) (row-visit-at t) row-visit.Post row-visit-Inv-loop row-visit-μ-loop
 row-visit-loop-less t c = search needs
 
-row-visit-loop-again : (t : ℕ) → row-visit-lts.Need-loop-again (
-  first-of-reads.Asked,
-  first-of-reads.Learnt,
-  end-of-reads.Asked,
-  end-of-reads.Learnt,
-  column-of-reads.Asked,
-  column-of-reads.Learnt,
-  at-odds-reads.Asked,
-  at-odds-reads.Learnt,
-  column-visit-below t,
-  column-visit.Post,
-) (row-visit-at t) row-visit.Post row-visit-Inv-loop row-visit-μ-loop
+row-visit-loop-again : (t : ℕ) → row-visit-lts.Need-loop-again (row-claims t) (row-visit-at t) row-visit.Post row-visit-Inv-loop row-visit-μ-loop
 row-visit-loop-again t c =
-    let a = c .before .before .before .before .before .before .before .before .args in
-    let G = ground (a .lean .now) (a .m) (a .list .now) (a .starts .now) in
-    let e = c .before .before .before .before .before .end-of in
-    let l = c .before .before .before .before .loop in
-    let k = c .before .before .column-of in
-    let o = c .before .at-odds in
+    let turn = c .before .before .before .before in
+    let l = turn .loop in
+    let odds = c .before in
+    let here = odds .before .before .loop-test .taken in
     ⊎-elim
-    (λ w. (
-      ap length (w .5) ∙ column-long G (w .3 .result) (k .result) (a .i) (l .seen) (l .mate) (w .3 .last .1 .1 .1 .1 .1 .1 .0) (w .3 .last .1 .1 .1 .1 .1 .1 .1 .0) (w .3 .ensures) ∙ l .inv .0,
-      omega (arith, ap unseen (w .5), column-fewer G (w .3 .result) (k .result) (a .i) (l .seen) (l .mate) (w .3 .last .1 .1 .1 .1 .1 .1 .0) (w .3 .last .1 .1 .1 .1 .1 .1 .1 .0) (w .3 .ensures), l .inv .1),
-      turn-goes
-          G
-          (visitRow G (a .i) (a .seen .now) (a .mate .now))
-          (a .i)
-          (e .result)
-          (l .t)
-          (k .result)
-          (l .seen)
-          (l .mate)
-          (l .inv .2)
-          (c .before .before .before .loop-test .taken)
-          (k .ensures)
-          (o .result)
-          (o .ensures)
-          (w .3 .result)
-          (w .3 .last .1 .1 .1 .1 .1 .1 .0)
-          (w .3 .last .1 .1 .1 .1 .1 .1 .1 .0)
+    (λ w. let v = w .3 in (
+      ap length (w .6) ∙ v .ensures .seen-long,
+      ap length (w .7) ∙ v .ensures .mate-long,
+      omega (arith, here),
+      omega (arith, ap unseen (w .6), w .8, v .ensures .paid, l .inv .2, l .inv .3),
+      rest-goes
+          (row-turn t turn)
+          (odds .before .column-of .result)
+          (from-take (row-nonzero t odds) (w .0 .taken))
+          (v .result)
+          (v .last .1 .1 .1 .1 .1 .1 .0)
+          (v .last .1 .1 .1 .1 .1 .1 .1 .0)
+          (v .ensures)
+          (omega (arith, l .inv .2, l .inv .3))
           (c .if1 .seen)
           (c .if1 .mate)
-          (w .0 .taken)
-          (w .3 .ensures)
-          (w .4 .left)
-          (w .5)
-          (w .6),
+          (c .if1 .looks)
+          (w .5 .left)
+          (w .6)
+          (w .7)
+          (w .8),
     ))
     (λ w. (
       ap length (w .1) ∙ l .inv .0,
-      omega (arith, ap unseen (w .1), l .inv .1),
-      turn-skips
-          G
-          (visitRow G (a .i) (a .seen .now) (a .mate .now))
-          (a .i)
-          (e .result)
-          (l .t)
-          (k .result)
-          (l .seen)
-          (l .mate)
-          (l .inv .2)
-          (c .before .before .before .loop-test .taken)
-          (k .ensures)
-          (o .result)
-          (o .ensures)
+      ap length (w .2) ∙ l .inv .1,
+      omega (arith, here),
+      omega (arith, ap unseen (w .1), w .3, l .inv .2, l .inv .3),
+      rest-skips
+          (row-turn t turn)
           (c .if1 .seen)
           (c .if1 .mate)
-          (w .0 .left)
+          (c .if1 .looks)
+          (from-pass (row-nonzero t odds) (w .0 .left))
           (w .1)
-          (w .2),
+          (w .2)
+          (w .3),
     ))
     (c .if1 .came)
 
-row-visit-returns-2 : (t : ℕ) → row-visit-lts.Need-returns-2 (
-  first-of-reads.Asked,
-  first-of-reads.Learnt,
-  end-of-reads.Asked,
-  end-of-reads.Learnt,
-  column-of-reads.Asked,
-  column-of-reads.Learnt,
-  at-odds-reads.Asked,
-  at-odds-reads.Learnt,
-  column-visit-below t,
-  column-visit.Post,
-) (row-visit-at t) row-visit.Post row-visit-Inv-loop row-visit-μ-loop
+row-visit-returns-2 : (t : ℕ) → row-visit-lts.Need-returns-2 (row-claims t) (row-visit-at t) row-visit.Post row-visit-Inv-loop row-visit-μ-loop
 row-visit-returns-2 t c =
-    let a = c .before .before .before .before .before .args in
+    let s = c .before .before .before .before .before in
+    let a = s .args in
     let G = ground (a .lean .now) (a .m) (a .list .now) (a .starts .now) in
     let l = c .before .loop in
-    row-ends
-    G
-    (visitRow G (a .i) (a .seen .now) (a .mate .now))
-    (a .i)
-    (c .before .before .end-of .result)
-    (l .t)
-    (l .seen)
-    (l .mate)
-    (l .inv .2)
-    (c .loop-test .left)
+    let e = c .before .before .end-of in
+    record {
+      seen-long = l .inv .0;
+      mate-long = l .inv .1;
+      paid = omega (arith, l .inv .2, l .inv .3);
+      is = λ depth d. rest-ends
+          (row-turn t (c .before))
+          depth
+          (from-none G (a .i) (e .result) (l .t) (c .loop-test .left))
+          d;
+    }
 
 pub +column-visit+row-visit-spec : {M : Type 1} → statement M
-+column-visit+row-visit-spec = close μ-column-visit μ-row-visit (λ t. column-visit-lts.spec (
-  wide-reads.Asked,
-  wide-reads.Learnt,
-  row-visit-below t,
-  row-visit.Post,
-)
++column-visit+row-visit-spec = close μ-column-visit μ-row-visit (λ t. column-visit-lts.spec (column-claims t)
     (column-visit-at t)
     column-visit.Post
     (column-visit-wide-requires t)
@@ -556,23 +375,13 @@ pub +column-visit+row-visit-spec : {M : Type 1} → statement M
     (column-visit-sub-r t)
     (column-visit-cast-r t)
     (column-visit-row-visit-requires t)
+    (column-visit-add-looks t)
     (column-visit-add-mate-2 t)
     (column-visit-mul-mate-2 t)
     (column-visit-element-write-mate-2 t)
     (column-visit-returns-3 t)
     (column-visit-returns-4 t))
-    λ t. row-visit-lts.spec (
-      first-of-reads.Asked,
-      first-of-reads.Learnt,
-      end-of-reads.Asked,
-      end-of-reads.Learnt,
-      column-of-reads.Asked,
-      column-of-reads.Learnt,
-      at-odds-reads.Asked,
-      at-odds-reads.Learnt,
-      column-visit-below t,
-      column-visit.Post,
-    )
+    λ t. row-visit-lts.spec (row-claims t)
     (row-visit-at t)
     row-visit.Post
     row-visit-Inv-loop
@@ -583,6 +392,7 @@ pub +column-visit+row-visit-spec : {M : Type 1} → statement M
     (row-visit-column-of-requires t)
     (row-visit-at-odds-requires t)
     (row-visit-column-visit-requires t)
+    (row-visit-add-looks t)
     (row-visit-returns t)
     (row-visit-add-t t)
     (row-visit-loop-less t)

@@ -54,11 +54,19 @@ returns-5 c =
       lt-leb _ _ (c .if5 .taken),
     )
 
+counts-fine-requires : tie.Need-counts-fine-requires
+counts-fine-requires c κs =
+    let ranged = c .before .before in
+    let small = sym (ranged .before .caps-outside .ensures) ∙ ranged .if4 .left in
+    (ranged .before .before .before .before .before .pre, omega (arith, c .if5 .left, caps-ranged _ small Zero, caps-ranged _ small One))
+
 returns-6 : tie.Need-returns-6
 returns-6 c =
-    let ranged = c .before .before in
+    let last = c .before in
+    let ranged = last .before .before in
     let sizes = ranged .before .before in
-    numbers-last
+    c .counts-fine .ensures
+    ∙ numbers-last
     _
     _
     _
@@ -67,9 +75,9 @@ returns-6 c =
     (sizes .before .if2 .left)
     (sizes .if3 .left)
     (sym (ranged .before .caps-outside .ensures) ∙ ranged .if4 .left)
-    (c .if5 .left)
+    (last .if5 .left)
 
 pub numbers-fine-spec : {M : Type 1} → statement M
 numbers-fine-spec =
     tie.close
-    (tie.spec returns returns-2 returns-3 caps-outside-requires returns-4 add-if5 returns-5 returns-6)
+    (tie.spec returns returns-2 returns-3 caps-outside-requires returns-4 add-if5 returns-5 counts-fine-requires returns-6)

@@ -29,6 +29,9 @@ returns-4 c e = cc
 returns-5 : tie.Need-returns-5
 returns-5 c e = cc
 
+same-counts-requires : tie.Need-same-counts-requires
+same-counts-requires c κs = search needs
+
 returns-6 : tie.Need-returns-6
 returns-6 c e = cc
 
@@ -38,42 +41,40 @@ returns-7 c e = cc
 returns-8 : tie.Need-returns-8
 returns-8 c e = cc
 
-returns-9 : tie.Need-returns-9
-returns-9 c e = cc
-
 same-trail-requires : tie.Need-same-trail-requires
 same-trail-requires c κs = search needs
 
-returns-10 : tie.Need-returns-10
-returns-10 c e = cc
+returns-9 : tie.Need-returns-9
+returns-9 c e = cc
 
 same-trail-requires-2 : tie.Need-same-trail-requires-2
 same-trail-requires-2 c κs = search needs
 
-returns-11 : tie.Need-returns-11
-returns-11 c e =
+returns-10 : tie.Need-returns-10
+returns-10 c e =
     let best = c .before in
     let complete = best .before .before in
     let found = complete .before .before .before in
-    let count = found .before .before .before in
-    let tries = count .before .before .before in
-    let cap1 = tries .before .before .before in
+    let counts = found .before .before .before in
+    let cap1 = counts .before .before in
     let cap0 = cap1 .before .before .before in
     let nonzeros = cap0 .before .before .before in
     let columns = nonzeros .before .before .before in
     let rows = columns .before .before .before in
     let a = rows .before .before .before .before .before .before .before .args in
+    let same = counts .before .same-counts .ensures (not-false (counts .before .same-counts .result) (counts .if6 .left)) in
     λ i. record {
       m = rows .if1 .left i;
       n = columns .if2 .left i;
       nonzeros = nonzeros .if3 .left i;
       cap0 = cap0 .if4 .left i;
       cap1 = cap1 .if5 .left i;
-      tries = tries .if6 .left i;
-      «best_count» = count .if7 .left i;
-      found = same-test (a .a .found) (a .b .found) (found .if8 .left) i;
-      best = best .before .same-trail .ensures (not-false (best .before .same-trail .result) (best .if10 .left)) i;
-      complete = same-test (a .a .complete) (a .b .complete) (complete .if9 .left) i;
+      tries = same .0 i;
+      looks = same .1 i;
+      «best_count» = same .2 i;
+      found = same-test (a .a .found) (a .b .found) (found .if7 .left) i;
+      best = best .before .same-trail .ensures (not-false (best .before .same-trail .result) (best .if9 .left)) i;
+      complete = same-test (a .a .complete) (a .b .complete) (complete .if8 .left) i;
       trail = c .same-trail2 .ensures e i;
     }
 
@@ -86,11 +87,11 @@ same-search-spec =
     returns-3
     returns-4
     returns-5
+    same-counts-requires
     returns-6
     returns-7
     returns-8
-    returns-9
     same-trail-requires
-    returns-10
+    returns-9
     same-trail-requires-2
-    returns-11)
+    returns-10)

@@ -5,7 +5,7 @@ use native.Mathlib.Omega.{arith}
 use Rattle.model.specs.declared.Verdict.the-variants.{Accepted}
 use Rattle.pattern.proofs.Verdicts.{accepted-tag}
 use Rattle.search.specs.Running.{budgetBy}
-use Rattle.search.proofs.Budgets.{budget-within, normal-tries, run-taken, run-refused}
+use Rattle.search.proofs.Budgets.{budget-within, normal-tries, from-held, from-tryable, run-taken, run-refused}
 use borrow.Author.Needs.{needs}
 use Rattle.search.proofs.trying.running.run_fine.Statement.{statement}
 use Rattle.search.proofs.trying.running.run_fine.Tie as tie
@@ -27,7 +27,12 @@ normal-requires : tie.Need-normal-requires
 normal-requires c κs = search needs
 
 run-from-requires : tie.Need-run-from-requires
-run-from-requires c κs = omega (arith, budget-within _ _ (accepted (c .before .before)), normal-tries _ _ (c .normal .ensures))
+run-from-requires c κs =
+    let start = c .before .before .before .before .before in (
+      omega (arith, budget-within _ _ (accepted (c .before .before)), normal-tries _ _ (c .normal .ensures)),
+      from-held _ _ _ _ _ _ _ (start .args .search) _ (start .pre) (c .normal .ensures),
+      from-tryable _ _ _ _ _ _ _ (start .args .search) _ (start .pre) (c .normal .ensures),
+    )
 
 ended-as-requires : tie.Need-ended-as-requires
 ended-as-requires c κs = search needs
@@ -38,11 +43,11 @@ enum-known-verdict c = search needs
 returns : tie.Need-returns
 returns c =
     let b = c .before .before .before .before in
-    let a = b .before .before .before .args in
-    run-taken (a .rows) (a .columns) (a .size) (a .list .now) (a .places .now) (a .starts .now) (a .k) (a .budget) (a .search) (c .before .before .normal .result) (c .before .run-from .result) (c .ended-as .result) (b .before .budget-verdict .result) (b .before .budget-verdict .ensures) (accepted-tag _ (b .match .keys1)) (c .before .before .normal .ensures) (c .before .run-from .ensures) (c .ended-as .ensures)
+    let start = b .before .before .before in
+    run-taken _ _ _ _ _ _ _ (start .args .search) _ (start .pre) (c .before .before .normal .ensures) (start .args .budget) _ _ _ (b .before .budget-verdict .ensures) (accepted-tag _ (b .match .keys1)) (c .before .run-from .ensures) (c .ended-as .ensures)
 
 returns-2 : tie.Need-returns-2
-returns-2 c = λ ready fits normal. run-refused _ _ _ _ _ _ (sym (c .before .before .before .budget-verdict .ensures) ∙ c .before .verdict .given .1)
+returns-2 c = run-refused _ _ _ _ _ _ (sym (c .before .before .before .budget-verdict .ensures) ∙ c .before .verdict .given .1)
 
 pub run-fine-spec : {M : Type 1} → statement M
 run-fine-spec =

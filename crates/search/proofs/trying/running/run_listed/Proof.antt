@@ -4,7 +4,7 @@ use mathlib.Core.Path.{sym, _∙_}
 use native.Mathlib.Omega.{arith}
 use Rattle.model.proofs.Theorems.Accepted.{list-accepted}
 use Rattle.state.proofs.Accepting.{accepted-ready}
-use Rattle.search.proofs.Answered.{run-ready, run-unfit}
+use Rattle.search.proofs.Answered.{fine-tryable, run-ready, run-unfit}
 use borrow.Author.Needs.{needs}
 use Rattle.search.proofs.trying.running.run_listed.Statement.{statement}
 use Rattle.search.proofs.trying.running.run_listed.Tie as tie
@@ -31,7 +31,14 @@ state-fine-requires : tie.Need-state-fine-requires
 state-fine-requires c κs = search needs
 
 run-fine-requires : tie.Need-run-fine-requires
-run-fine-requires c κs = search needs
+run-fine-requires c κs =
+    let branch = c .before .before in
+    let state = branch .before in
+    let total = state .before .before .before in
+    let starts = total .before in
+    let places = starts .before in
+    let ready = accepted-ready _ _ _ _ _ _ _ (places .before .before .pre) (places .places .ensures) (starts .row-starts .ensures) (total .line-total .ensures) in
+    fine-tryable _ _ _ _ 0 _ _ _ _ ready (sym (state .state-fine .ensures ready) ∙ branch .if1 .taken)
 
 returns : tie.Need-returns
 returns c =
@@ -41,21 +48,7 @@ returns c =
     let starts = total .before in
     let places = starts .before in
     let ready = accepted-ready _ _ _ _ _ _ _ (places .before .before .pre) (places .places .ensures) (starts .row-starts .ensures) (total .line-total .ensures) in
-    run-ready
-    _
-    _
-    _
-    _
-    _
-    _
-    _
-    _
-    _
-    _
-    (places .before .before .pre)
-    ready
-    (sym (state .state-fine .ensures ready) ∙ branch .if1 .taken)
-    (c .run-fine .ensures)
+    run-ready _ _ _ _ _ _ _ (places .before .before .pre) (sym (state .state-fine .ensures ready) ∙ branch .if1 .taken) (c .run-fine .ensures)
 
 returns-2 : tie.Need-returns-2
 returns-2 c =

@@ -1,7 +1,0 @@
-pub mod Entered
-pub mod Stands
-pub mod Outcome
-pub mod Column
-pub mod Row
-pub mod Start
-pub mod Greatest
