@@ -17,7 +17,7 @@ use Rattle.model.specs.Pattern.{Pattern, Inside, lines, rowLine, columnL
 use Rattle.model.specs.Marking.{Marking}
 use Rattle.model.specs.Bound.{conflict, L4}
 use Rattle.model.proofs.Bound.Cover.{cover-bounds}
-use Rattle.model.proofs.Matching.Mates.{Matching, Covers, joined, matched, joined-by, joined-column-in, no-mates}
+use Rattle.model.proofs.Matching.Mates.{Matching, Covers, joined, matched, joined-by, no-mates}
 use Rattle.model.proofs.Matching.Below.{matching-below}
 
 -- a matching of the conflicts of the first i rows, with a cover of those rows' conflicts that is no larger
@@ -153,26 +153,4 @@ start-succeeds P μ i mate mate′ g M below′ more =
         (λ h. or-left _ (or-left _ h))
         (λ h. or-right _ h)
         (or-cases (g .rows r) (g .columns j) (g .cover .covers r j l e)))
-        (eq-or-lt-of-le (le-of-suc-le-suc b))
-
--- a row with no conflict: the matching and the cover stay
-pub row-without :
-    (P : Pattern) (μ : Marking) (i : ℕ) (mate : ℕ → ℕ) →
-    Inside P → Greatest P μ i mate →
-    ((j : ℕ) → j < P .n → joined P μ i j ≡ false) → Greatest P μ (suc i) mate
-row-without P μ i mate inside g alone =
-    record {
-      matching = g .matching;
-      below = λ j r b e. omega (arith, g .below j r b e);
-      rows = g .rows;
-      columns = g .columns;
-      cover = record { covers = covers′ };
-      small = g .small;
-    }
-  where
-    covers′ : (r j : ℕ) → r < suc i → joined P μ r j ≡ true → g .rows r or g .columns j ≡ true
-    covers′ r j b e =
-        ⊎-elim
-        (λ q. clash e (ap (λ k. joined P μ k j) q ∙ alone j (joined-column-in P μ r j inside e)))
-        (λ l. g .cover .covers r j l e)
         (eq-or-lt-of-le (le-of-suc-le-suc b))

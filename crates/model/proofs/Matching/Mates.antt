@@ -78,13 +78,7 @@ pub joined-meeting :
 unfolding joined
 joined-meeting P μ i j e = any-elim (meeting P μ i j) (P .size) e
 
--- a row that is joined to a column lies in the matrix
-pub joined-row-in : (P : Pattern) (μ : Marking) (i j : ℕ) → Inside P → joined P μ i j ≡ true → i < P .m
-joined-row-in P μ i j inside e =
-    let w = joined-meeting P μ i j e in
-    omega (arith, inside .row-in (w .0) (w .1), meeting-row P μ i j (w .0) (w .2))
-
--- and so does the column
+-- a column that is joined to a row lies in the matrix
 pub joined-column-in : (P : Pattern) (μ : Marking) (i j : ℕ) → Inside P → joined P μ i j ≡ true → j < P .n
 joined-column-in P μ i j inside e =
     let w = joined-meeting P μ i j e in

@@ -1,16 +1,15 @@
--- Mates that agree on every column: both are a matching or neither is, and their sizes are equal. And the order in which two columns get their mates.
+-- Mates that agree on every column: both are a matching or neither is. And the order in which two columns get their mates.
 -- Assumes nothing.
 use mathlib.Core.Path.{_≡_, sym, _∙_, ap}
 use Prim.Native.Nat.{ℕ, _<_}
-use lib.Dec.{eqb, ltb}
+use lib.Dec.{eqb}
 use borrow.Author.Tests.{eqb-true, eqb-false}
 use Rattle.counting.specs.Tests.{pick}
 use Rattle.counting.proofs.Joined.{by-test}
-use Rattle.counting.proofs.Counted.{count-eq}
 use Rattle.model.specs.Pattern.{Pattern}
 use Rattle.model.specs.Marking.{Marking}
 use Rattle.model.specs.Matching.{withMate}
-use Rattle.model.proofs.Matching.Mates.{Matching, matched}
+use Rattle.model.proofs.Matching.Mates.{Matching}
 use Rattle.model.proofs.Matching.Swap.{with-same, with-other}
 
 -- mates that agree on every column are a matching together
@@ -22,14 +21,6 @@ matching-same P μ mate mate′ same M =
       meets = λ i j b e. M .meets i j b (same j b ∙ e);
       apart = λ i j k b c e f. M .apart i j k b c (same j b ∙ e) (same k c ∙ f);
     }
-
--- and have the same size
-pub matched-same :
-    (P : Pattern) (mate mate′ : ℕ → ℕ) →
-    ((j : ℕ) → j < P .n → mate j ≡ mate′ j) → matched P mate ≡ matched P mate′
-unfolding matched
-matched-same P mate mate′ same =
-    count-eq (λ j. ltb 0 (mate j)) (λ j. ltb 0 (mate′ j)) (P .n) (λ j b. ap (ltb 0) (same j b))
 
 -- where two mates of column c agree, they do once column j gets a mate
 pub with-cong :
