@@ -11,7 +11,7 @@ use Rattle.counting.specs.Tests.{bit}
 use Rattle.counting.proofs.Joined.{clash}
 use Rattle.model.specs.Walk.{isEmpty}
 use Rattle.model.specs.Matching.{Visited, through, columnWithin, startFrom, Tally, tally, counted, startsFrom}
-use Rattle.model.proofs.Matching.Visits.{through-none}
+use Rattle.model.proofs.Matching.Visits.{start-without}
 use Rattle.matching.specs.declared.augmenting.Visit.{Visit}
 use Rattle.matching.specs.declared.augmenting.Matching.{Matching}
 use Rattle.matching.specs.Augmenting.{Ground, columnsIn, enteredIn, matesIn, unseen, RowVisits, Starts, noColumns, searched, matchingIn, sideRoom}
@@ -28,13 +28,8 @@ module _ (G : Ground) (i : ℕ) (mate : List ℕ) where
   -- a row without conflicts
   pub start-passed :
       length mate ≡ sideRoom → not (isEmpty (columnsIn G i)) ≡ false → Starts G i mate (answer false 0) mate
-  unfolding startFrom
   start-passed l e =
-      let none =
-      ap
-      (λ (js : List ℕ). through (columnWithin (columnsIn G) sideRoom) i js (λ j. false) (matesIn mate))
-      (no-columns (columnsIn G i) e)
-      ∙ through-none (columnWithin (columnsIn G) sideRoom) i (λ j. false) (matesIn mate) in
+      let none = start-without (columnsIn G) sideRoom i (matesIn mate) (no-columns (columnsIn G i) e) in
       record {
         mate-long = l;
         few = omega arith;

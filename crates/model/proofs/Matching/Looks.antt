@@ -22,7 +22,7 @@ use Rattle.model.specs.Matching.{Visited, Visit, looked, through, withCo
 use Rattle.model.proofs.Bound.Cover.{cover-bounds}
 use Rattle.model.proofs.Matching.Greatest.{Greatest}
 use Rattle.model.proofs.Matching.Columns.{each, each-first, each-rest, conflict-inside, conflict-length, conflict-total}
-use Rattle.model.proofs.Matching.Visits.{through-none, through-found, through-on, within-free, within-held, within-entered, hand-found, hand-not, column-same}
+use Rattle.model.proofs.Matching.Visits.{through-none, through-found, through-on, within-free, within-held, within-entered, start-without, hand-found, hand-not, column-same}
 use Rattle.model.proofs.Matching.Depth.{matched-row}
 use Rattle.model.proofs.Matching.Searched.{starts-post}
 
@@ -262,14 +262,13 @@ module _ (P : Pattern) (μ : Marking) (inside : Inside P) where
   start-none :
       (depth i : ℕ) (mate : ℕ → ℕ) → any (conflictOf P μ i) (P .size) ≡ false →
       startFrom (conflictColumns P μ) depth i mate .looks ≡ 0
-  unfolding startFrom any
+  unfolding any
   start-none depth i mate e =
       let none : length (conflictColumns P μ i) ≤ 0 =
       omega (arith, conflict-length P μ i, ltb-false 0 (count (conflictOf P μ i) (P .size)) e) in
       ap
-      (λ (js : List ℕ). through (columnWithin (conflictColumns P μ) depth) i js (λ j. false) mate .looks)
-      (no-columns (conflictColumns P μ i) none)
-      ∙ ap (λ (o : Visited). o .looks) (through-none (columnWithin (conflictColumns P μ) depth) i (λ j. false) mate)
+      (λ (o : Visited). o .looks)
+      (start-without (conflictColumns P μ) depth i mate (no-columns (conflictColumns P μ i) none))
     where
       no-columns : (js : List ℕ) → length js ≤ 0 → js ≡ []
       no-columns [] h = refl

@@ -10,7 +10,7 @@ use borrow.Author.Tests.{eqb-true, eq-eqb, ne-eqb}
 use Rattle.counting.specs.Tests.{_or_, pick}
 use Rattle.counting.proofs.Joined.{clash, or-left, or-right, or-cases, pick-true, pick-false}
 use mathlib.Core.Logic.{⊎-elim}
-use Rattle.model.specs.Matching.{Visited, visited, Visit, looked, elseGo, through, withColumn, withMate, handOver, columnStep, columnWithin}
+use Rattle.model.specs.Matching.{Visited, visited, Visit, looked, elseGo, through, withColumn, withMate, handOver, columnStep, columnWithin, startFrom}
 
 -- looks made before and before that
 pub looked-twice : (x y : ℕ) (o : Visited) → looked x (looked y o) ≡ looked (x + y) o
@@ -82,6 +82,15 @@ pub within-entered :
 unfolding columnWithin columnStep
 within-entered columns zero j i entered mate e = refl
 within-entered columns (suc depth) j i entered mate e = pick-true _ _ e
+
+-- a start from a row without conflicts makes no look and changes nothing
+pub start-without :
+    (columns : ℕ → List ℕ) (depth i : ℕ) (mate : ℕ → ℕ) → columns i ≡ [] →
+    startFrom columns depth i mate ≡ visited false 0 (λ j. false) mate
+unfolding startFrom
+start-without columns depth i mate e =
+    ap (λ (js : List ℕ). through (columnWithin columns depth) i js (λ j. false) mate) e
+    ∙ through-none (columnWithin columns depth) i (λ j. false) mate
 
 -- the column's row found another
 pub hand-found :
