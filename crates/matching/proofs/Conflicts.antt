@@ -8,7 +8,6 @@ use native.Mathlib.Omega.{arith}
 use lib.Dec.{eqb, ltb}
 use lib.ListN.{getD}
 use borrow.Author.Tests.{eq-eqb, ne-eqb, ltb-true, ltb-false}
-use Rattle.counting.specs.Tests.{_and_}
 use Rattle.counting.proofs.Joined.{no-way, by-test, and-all, and-fails-right, pick-true, pick-false}
 use Rattle.model.specs.declared.Part.the-variants.{Zero, One}
 use Rattle.model.specs.Pattern.{Pattern, Inside, patternOf, lines, rowLine, columnLine, columnIn}

@@ -3,7 +3,6 @@
 use mathlib.Core.List.{List}
 use mathlib.Core.Path.{_≡_, refl, sym, _∙_, ap, subst}
 use Prim.Native.Nat.{ℕ, _+_, _*_, _≤_, _<_}
-use native.Mathlib.Omega.{arith}
 use lib.Dec.{ltb}
 use borrow.Author.Tests.{lt-ltb, le-ltb, ltb-false}
 use Rattle.counting.specs.Tests.{_or_}
@@ -25,8 +24,7 @@ use Rattle.model.specs.Calls.{ended, ranRecord, ranAfter}
 use Rattle.model.proofs.Theorems.Checks.{refuse-not, refuse-so, refuse-no}
 use Rattle.state.specs.Holding.{normalOf}
 use Rattle.state.specs.Ready.{Fits}
-use Rattle.state.proofs.Held.{record-back}
-use Rattle.state.proofs.Accepting.{fine-normal}
+use Rattle.state.proofs.Accepting.{fine-normal, fits-back}
 use Rattle.search.specs.Trying.{Tryable}
 use Rattle.search.specs.Running.{budgetBy}
 
@@ -75,9 +73,7 @@ module _ (rows columns size : ℕ) (list places starts : List ℕ) (k : ℕ) (s 
   is-record = f ∙ fine-normal s k (t .ready .few) (t .fits)
 
   same-record : recordOf from ≡ recordOf s
-  same-record =
-      ap recordOf is-record
-      ∙ record-back (recordOf s) (omega (arith, t .fits .trail-fits, t .ready .few)) (λ τ e. omega (arith, t .fits .best-fits τ e, t .ready .few))
+  same-record = ap recordOf is-record ∙ fits-back k (recordOf s) (t .ready .few) (t .fits)
 
   -- and tries can be made on it
   pub from-held : from ≡ searchOf (recordOf from)

@@ -5,7 +5,6 @@ use mathlib.Core.List.{List}
 use mathlib.Core.Logic.{inl, inr, ⊎-elim}
 use mathlib.Core.Path.{_≡_, refl, sym, _∙_, ap, subst}
 use Prim.Native.Nat.{ℕ, _+_, _*_, _≤_}
-use native.Mathlib.Omega.{arith}
 use lib.Dec.{ltb}
 use borrow.Author.Tests.{ltb-false, not-false}
 use Rattle.counting.specs.Tests.{_and_}
@@ -20,7 +19,7 @@ use Rattle.model.proofs.Walk.Looked.{walk-looked}
 use Rattle.model.proofs.Theorems.Ends.{rules-looks}
 use Rattle.model.proofs.Theorems.OfList.{rules-k}
 use Rattle.state.specs.Ready.{Fits}
-use Rattle.state.proofs.Held.{record-back}
+use Rattle.state.proofs.Accepting.{fits-back}
 use Rattle.search.specs.Trying.{Tryable}
 use Rattle.search.proofs.Runs.{walk-fits, walk-more, walk-done, walk-caps, search-caps, search-complete}
 
@@ -52,9 +51,7 @@ module _ (m n nonzeros : ℕ) (list places starts : List ℕ) (k : ℕ) (s₀ : 
 
   -- and reads back
   back : (i : ℕ) → recordOf (searchOf (at i)) ≡ at i
-  back i =
-      let f = fits-on i in
-      record-back (at i) (omega (arith, f .trail-fits, t₀ .ready .few)) (λ τ e. omega (arith, f .best-fits τ e, t₀ .ready .few))
+  back i = fits-back k (at i) (t₀ .ready .few) (fits-on i)
 
   at-caps : (i : ℕ) → capsIn (searchOf (at i)) ≡ capsIn s₀
   unfolding recordOf

@@ -27,7 +27,7 @@ use Rattle.model.proofs.Theorems.Accepted.{list-accepted}
 use Rattle.model.proofs.Theorems.OfList.{rules-k}
 use Rattle.state.specs.Ready.{Ready, Fits}
 use Rattle.state.proofs.Normal.{normal-is}
-use Rattle.state.proofs.Held.{few-lines}
+use Rattle.state.proofs.Held.{record-back, few-lines}
 use Rattle.state.proofs.StateLaws.{marks-length}
 
 empty-short : (R : Rules) (τ : List ℕ) → isEmpty τ ≡ true → length τ ≤ R .k
@@ -105,6 +105,11 @@ module _ (s : Search) (k : ℕ) (small : k ≤ 240) (f : Fits k (recordOf s)) wh
   -- and its cleared search is the search of its record
   pub fine-normal : normalOf s ≡ searchOf (recordOf s)
   fine-normal = normal-is s trail-fits best-fits
+
+-- a record whose markings fit reads back from its search
+pub fits-back : (k : ℕ) (r : Record) → k ≤ 240 → Fits k r → recordOf (searchOf r) ≡ r
+fits-back k r small f =
+    record-back r (omega (arith, f .trail-fits)) (λ τ e. omega (arith, f .best-fits τ e))
 
 -- the tables of an accepted list are at hand
 accepted-few : (m n nonzeros : ℕ) (list : List ℕ) → listVerdict m n nonzeros list ≡ Accepted → lineTotal (patternOf m n nonzeros list) ≤ 2 * lineLimit

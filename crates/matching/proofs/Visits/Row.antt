@@ -7,7 +7,6 @@ use Prim.Native.Nat.{ℕ, suc, _+_, _-_, _≤_, _<_}
 use native.Mathlib.Omega.{arith}
 use lib.ListN.{getD}
 use borrow.Author.Tests.{lt-ltb, ne-eqb}
-use Rattle.counting.specs.Tests.{_and_}
 use Rattle.counting.proofs.Joined.{no-way, pick-true, and-fails-left, or-fails}
 use Rattle.model.specs.Pattern.{columnIn}
 use Rattle.model.specs.Matching.{Visited, visited, Visit, looked, columnsWhere, through, columnWithin}

@@ -7,7 +7,7 @@ use Prim.Native.Nat.{ℕ, zero, suc, pred, _+_}
 use native.Mathlib.Omega.{arith}
 use lib.Dec.{eqb}
 use borrow.Author.Tests.{eqb-true, eq-eqb, ne-eqb}
-use Rattle.counting.specs.Tests.{_or_, pick}
+use Rattle.counting.specs.Tests.{pick}
 use Rattle.counting.proofs.Joined.{clash, or-left, or-right, or-cases, pick-true, pick-false}
 use mathlib.Core.Logic.{⊎-elim}
 use Rattle.model.specs.Matching.{Visited, visited, Visit, looked, elseGo, through, withColumn, withMate, handOver, columnStep, columnWithin, startFrom}
