@@ -4,6 +4,7 @@
 //
 // Usage: compare_walks PROGRAM [SEARCHES [SEED]]. The last line is
 // "N searches in pieces compared, 0 differ".
+#include "paths.hpp"
 #include "random.hpp"
 #include "running.hpp"
 
@@ -16,7 +17,7 @@ using namespace baseline;
 namespace {
 
 constexpr size_t runs_at_once = 4;
-constexpr size_t most_input = 16384;   // bytes that the program reads
+constexpr size_t most_input = 65536;   // bytes that the program reads
 
 // A run of a budget, or a number or the trail replaced.
 struct Piece {
@@ -31,7 +32,7 @@ struct Search {
     Caps caps = {0, 0};
     std::vector<uint8_t> bytes;
     std::vector<Piece> pieces;
-    uint64_t nonzeros() const { return bytes.size() / 2; }
+    uint64_t nonzeros() const { return bytes.size() / entry_size; }
     List list() const { return {rows, columns, nonzeros(), bytes.data(), bytes.size()}; }
 };
 
@@ -43,23 +44,40 @@ std::string letters_of(const Marking& marking) {
 
 // ---- random searches
 
+// The most lines on a side of a pattern: small, middling and large ones. In those
+// of less than 6 lines on a side conflicts are rare.
+uint64_t random_side(Random& random, uint64_t number) {
+    if (number % 1000 == 500) return most_side;
+    if (number % 400 == 0) return 120;
+    if (number % 10 == 0) return 30;
+    return random.chance(20) ? random.between(1, 5) : random.between(6, 16);
+}
+
+// Of the largest patterns, the rows, the columns or both have numbers past a byte.
+void draw_sizes(Random& random, uint64_t side, bool sparse, Search& search) {
+    uint64_t least = sparse ? (side + 1) / 2 : 1, past_byte = random.below(3);
+    auto lines = [&](bool past) { return random.between(past ? 257 : least, side); };
+    search.rows = lines(side == most_side && past_byte != 0);
+    search.columns = lines(side == most_side && past_byte != 1);
+}
+
 // Most have twice to five times as many nonzeros as lines on a side: there
 // conflicts are frequent.
 void draw_pattern(Random& random, uint64_t side, Search& search) {
     bool sparse = random.chance(75);
-    uint64_t least = sparse ? (side + 1) / 2 : 1;
-    search.rows = random.between(least, side);
-    search.columns = random.between(least, side);
-    uint64_t most = std::min<uint64_t>(search.rows * search.columns, 1900);
+    draw_sizes(random, side, sparse, search);
+    uint64_t most = std::min(search.rows * search.columns, most_nonzeros);
     uint64_t nonzeros = random.below(most + 1);
     if (sparse) nonzeros = std::min(most, random.between(2 * side, 5 * side));
     search.bytes = random_list(random, search.rows, search.columns, nonzeros);
     search.caps = random_accepted_caps(random, nonzeros);
 }
 
-// Small patterns may be run to their end in one piece.
-uint64_t random_budget(Random& random, uint64_t side) {
+// Small patterns may be run to their end in one piece; the conflicts of a large path
+// are met within the first tries, and more of these take long.
+uint64_t random_budget(Random& random, uint64_t side, bool large_path) {
     if (random.chance(3)) return random.chance(50) ? most_budget + 1 : UINT64_MAX;
+    if (large_path) return random.below(4);
     if (side <= 6 && random.chance(10)) return most_budget;
     switch (random.below(8)) {
     case 0: return 0;
@@ -108,24 +126,36 @@ void draw_limits(Random& random, Search& search) {
     search.pieces.push_back({Piece::looks_put, looks + random.below(2)});
 }
 
-// Small, middling and large patterns; in those of less than 6 lines on a side
-// conflicts are rare.
-uint64_t random_side(Random& random, uint64_t number) {
-    if (number % 400 == 0) return 120;
-    if (number % 10 == 0) return 30;
-    return random.chance(20) ? random.between(1, 5) : random.between(6, 16);
+// A pattern on which the search for the matching takes long paths.
+void draw_path(Random& random, bool large, Search& search) {
+    Path path(random, large);
+    search.rows = search.columns = path.side;
+    search.bytes = path.list;
+    search.caps = path.caps;
+}
+
+// One in which many lines have equally many nonzeros.
+void draw_full(Random& random, Search& search) {
+    Full full(random);
+    search.rows = full.rows;
+    search.columns = full.columns;
+    search.bytes = full.list;
+    search.caps = random_accepted_caps(random, search.nonzeros());
 }
 
 Search random_search(Random& random, uint64_t number) {
     Search search;
     uint64_t side = random_side(random, number);
-    draw_pattern(random, side, search);
+    bool large_path = number % 1000 == 250;
+    if (number % 500 == 250) draw_path(random, large_path, search);
+    else if (number % 1000 == 125) draw_full(random, search);
+    else draw_pattern(random, side, search);
     Pattern pattern = take_apart(search.list());
     if (pattern.depth() > 0 && random.chance(30))
         search.pieces.push_back(random_trail(random, pattern, search.caps));
     if (random.chance(3)) draw_limits(random, search);
     for (uint64_t left = random.between(1, 7); left > 0; --left)
-        search.pieces.push_back({Piece::ran, random_budget(random, side)});
+        search.pieces.push_back({Piece::ran, random_budget(random, side, large_path)});
     return search;
 }
 
@@ -134,8 +164,10 @@ Search random_search(Random& random, uint64_t number) {
 void write_fresh(std::ostream& text, const Search& search) {
     text << "fresh|" << search.rows << "|" << search.columns << "|" << search.nonzeros() << "|"
          << search.caps[0] << "|" << search.caps[1] << "|";
-    for (size_t at = 0; at < search.bytes.size(); at += 2)
-        text << (at == 0 ? "" : " ") << int(search.bytes[at]) << "," << int(search.bytes[at + 1]);
+    for (uint64_t at = 0; at < search.nonzeros(); ++at) {
+        auto [row, column] = cell_at(search.bytes.data(), at);
+        text << (at == 0 ? "" : " ") << row << "," << column;
+    }
     text << "\nshown\n";
 }
 

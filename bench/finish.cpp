@@ -19,7 +19,7 @@ int main(int count, char** words) {
     }
     const Walk& walk = count > 2 && std::string_view(words[2]) == "plain" ? plain() : incremental();
     std::string text{std::istreambuf_iterator<char>(std::cin), {}};
-    std::vector<uint8_t> bytes(2 * most_nonzeros), parts(most_nonzeros);
+    std::vector<uint8_t> bytes(entry_size * most_nonzeros), parts(most_nonzeros);
     TextContent content;
     Record record;
     Capped capped;

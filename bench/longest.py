@@ -1,9 +1,9 @@
 #!/usr/bin/env python3
 """Prints crates/split/stdin: the longest first line, and a text of exactly 65,536 bytes whose listing is long.
 
-The listing has 2,000 entries of 9 and 10 bytes, the most that rows and columns of 120 allow: all 441 cells
-with row and column in 100..120, and 1,559 more with one of the two in 10..99. The text has comments, blank
-lines, blanks, tabs, leading zeros, LF and CR LF, and ends with its last digit.
+The listing has 4,000 entries of 10 bytes, the most and the longest that there are: rows and columns of
+100..300. The text has comments, blank lines, blanks, tabs, leading zeros, LF and CR LF, and ends with its
+last digit. An entry takes 8 bytes of it at least and about 13 here, so that some room is left for comments.
 """
 import sys
 
@@ -31,7 +31,7 @@ def blanks(least, most):
 
 
 def number(n):
-    return str(n).zfill(9 - below(3) * below(3))
+    return str(n).zfill([3, 3, 3, 4, 5, 9][below(6)])
 
 
 def end():
@@ -39,7 +39,7 @@ def end():
 
 
 def entry(cell):
-    return blanks(0, 2) + number(cell[0]) + blanks(1, 3) + number(cell[1])
+    return blanks(0, 1) + number(cell[0]) + blanks(1, 2) + number(cell[1])
 
 
 def comment(length):
@@ -47,20 +47,17 @@ def comment(length):
     return "%" + "".join(chr(32 + below(95)) for _ in range(length - 2)) + "\n"
 
 
-long, short = range(100, 121), range(10, 100)
-core = [(i, j) for i in long for j in long]
-rest = [(i, j) for i in long for j in short] + [(i, j) for i in short for j in long]
-cells = shuffled(core + shuffled(rest)[:1559])
+cells = shuffled((i, j) for i in range(100, 301) for j in range(100, 301))[:4000]
 
 body = ""
 for cell in cells[:-1]:
-    body += entry(cell) + blanks(0, 2) + end()
+    body += entry(cell) + blanks(0, 1) + end()
     if below(40) == 0:
         body += blanks(0, 3) + end()
 body += entry(cells[-1])
 
 head = "%%MatrixMarket MATRIX\tCoordinate  pattern General \r\n"
-sizes = " 000000120\t120  000002000 \r\n"
+sizes = " 000000300\t300  000004000 \r\n"
 left = LIMIT - len(head) - len(sizes) - len(body)
 comments = ""
 while left > 200:

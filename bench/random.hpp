@@ -28,12 +28,24 @@ inline std::vector<uint8_t> random_list(Random& random, uint64_t rows, uint64_t 
     for (uint64_t row = 0; row < rows; ++row)
         for (uint64_t column = 0; column < columns; ++column, --left)
             if (random.below(left) < wanted) {
-                list.push_back(uint8_t(row));
-                list.push_back(uint8_t(column));
+                baseline::add_cell(list, {row, column});
                 --wanted;
             }
     return list;
 }
+
+// All cells of a few lines that cross more lines than a byte counts: the latter have
+// equally many nonzeros.
+struct Full {
+    uint64_t rows, columns;
+    std::vector<uint8_t> list;
+    explicit Full(Random& random) {
+        rows = random.between(1, baseline::most_nonzeros / baseline::most_side);
+        columns = random.between(257, baseline::most_side);
+        if (random.chance(50)) std::swap(rows, columns);
+        list = random_list(random, rows, columns, rows * columns);
+    }
+};
 
 // Caps that meet no refusal; most are barely enough.
 inline baseline::Caps random_equal_caps(Random& random, uint64_t nonzeros) {

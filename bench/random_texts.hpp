@@ -73,9 +73,9 @@ inline void draw(Random& random, Draft& draft, Cells cells, uint64_t wanted) {
 inline void draw_general(Random& random, Draft& draft, uint64_t side) {
     draft.rows = random.between(1, side);
     draft.columns = random.between(1, side);
-    uint64_t most = std::min<uint64_t>(2000, draft.rows * draft.columns);
+    uint64_t most = std::min(baseline::most_nonzeros, draft.rows * draft.columns);
     uint64_t wanted = random.below(std::min(most, 4 * (draft.rows + draft.columns)) + 1);
-    if (side == 120 && random.chance(20)) wanted = most;
+    if (side == baseline::most_side && random.chance(20)) wanted = most;
     Cells cells;
     for (uint64_t row = 1; row <= draft.rows; ++row)
         for (uint64_t column = 1; column <= draft.columns; ++column)
@@ -83,10 +83,11 @@ inline void draw_general(Random& random, Draft& draft, uint64_t side) {
     draw(random, draft, cells, wanted);
 }
 
-// Some large ones open out to 2,000 nonzeros, or a few less or more.
+// Some large ones open out to the most nonzeros, or to a few less or more: these
+// have enough cells below the diagonal from 64 rows on.
 inline void draw_symmetric(Random& random, Draft& draft, uint64_t side) {
-    bool near_limit = side == 120 && random.chance(50);
-    draft.rows = draft.columns = random.between(near_limit ? 50 : 1, side);
+    bool near_limit = side == baseline::most_side && random.chance(50);
+    draft.rows = draft.columns = random.between(near_limit ? 64 : 1, side);
     Cells on, below;
     for (uint64_t row = 1; row <= draft.rows; ++row) {
         on.push_back({row, row});
@@ -94,7 +95,7 @@ inline void draw_symmetric(Random& random, Draft& draft, uint64_t side) {
     }
     uint64_t wanted_on = random.below(on.size() + 1);
     uint64_t wanted_below = random.below(std::min(below.size(), 4 * on.size()) + 1);
-    if (near_limit) wanted_below = (1998 + random.below(6) - wanted_on) / 2;
+    if (near_limit) wanted_below = (baseline::most_nonzeros - 2 + random.below(6) - wanted_on) / 2;
     draw(random, draft, on, wanted_on);
     draw(random, draft, below, wanted_below);
     shuffle(random, draft.entries);
@@ -157,13 +158,15 @@ inline void miss_cell(Random& random, Draft& draft) {
 
 inline void miss_side(Random& random, Draft& draft) {
     uint64_t& lines = random.chance(50) ? draft.rows : draft.columns;
-    const uint64_t others[] = {std::max<uint64_t>(lines, 1) - 1, lines + 1, 120, 121};
+    const uint64_t others[] = {std::max<uint64_t>(lines, 1) - 1, lines + 1, baseline::most_side,
+                               baseline::most_side + 1};
     lines = others[random.below(std::size(others))];
 }
 
 inline void miss_count(Random& random, Draft& draft) {
     const uint64_t others[] = {draft.counted + 1, std::max<uint64_t>(draft.counted, 1) - 1,
-                               draft.counted + draft.counted, 2000, 2001, 999999999};
+                               draft.counted + draft.counted, baseline::most_nonzeros,
+                               baseline::most_nonzeros + 1, 999999999};
     draft.counted = others[random.below(std::size(others))];
 }
 
@@ -323,8 +326,8 @@ inline void damage_lines(Random& random, std::string& input) {
 // Puts another number in place of one.
 inline void damage_number(Random& random, std::string& input) {
     static constexpr std::string_view others[] = {
-        "0", "1", "2", "3", "9", "100", "101", "120", "121", "128", "255", "256", "257",
-        "2000", "2001", "65536", "1000000", "1000001", "999999999", "0000000001",
+        "0", "1", "2", "3", "9", "100", "101", "255", "256", "257", "300", "301", "511", "512",
+        "513", "4000", "4001", "65536", "65537", "1000000", "1000001", "999999999", "0000000001",
         "1000000000", "4294967297", "18446744073709551617", "-1", "+1", "1.0", "1e5", "x", ""};
     size_t from = input.find_first_of("0123456789", place(random, input));
     if (from == std::string::npos) return;
@@ -384,7 +387,8 @@ inline std::string random_request(Random& random, uint64_t number) {
     bool spoilt = random.chance(50), damaged = spoilt && random.chance(50);
     Layout layout{random, random.chance(50) ? random.between(2, 30) : 0};
     std::string input = first_line(layout);
-    Draft draft = random_draft(random, large ? 120 : middling ? 30 : 8, random.chance(50));
+    uint64_t side = large ? baseline::most_side : middling ? 30 : 8;
+    Draft draft = random_draft(random, side, random.chance(50));
     for (uint64_t left = spoilt && !damaged ? random.between(1, 2) : 0; left > 0; --left)
         miss(random, draft);
     input += laid_out(layout, draft);

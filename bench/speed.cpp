@@ -7,9 +7,15 @@
 // own, so that its peak memory is its own; the quickest of three counts, and
 // the table gives the slowest as well. A call is repeated until it has taken a
 // fifth of a second; opening and showing are part of its time.
+//
+// Compiled with -DBEFORE_LIBRARY and linked with an earlier library, it measures
+// that as well, on the patterns that it takes.
 #include "baseline/text.hpp"
 #include "implementations.hpp"
 #include "random.hpp"
+#ifdef BEFORE_LIBRARY
+#include "before.hpp"
+#endif
 
 #include <sys/resource.h>
 #include <sys/wait.h>
@@ -28,7 +34,7 @@ struct Subject {
     uint64_t rows = 0, columns = 0;
     uint64_t cap = 0;            // of both parts
     std::vector<uint8_t> list;
-    uint64_t nonzeros() const { return list.size() / 2; }
+    uint64_t nonzeros() const { return list.size() / baseline::entry_size; }
 };
 
 struct Measure {
@@ -47,6 +53,19 @@ uint64_t figure(const std::vector<uint8_t>& figures, size_t at) {
     uint64_t value = 0;
     for (size_t byte = 8; byte > 0; --byte) value = 256 * value + figures[8 * at + byte - 1];
     return value;
+}
+
+std::vector<Implementation> all_implementations() {
+    std::vector<Implementation> all = implementations();
+#ifdef BEFORE_LIBRARY
+    all.push_back(before());
+#endif
+    return all;
+}
+
+bool takes(const Implementation& one, const Subject& subject) {
+    return std::max(subject.rows, subject.columns) <= one.most_side &&
+           subject.nonzeros() <= one.most_nonzeros;
 }
 
 // One call; without a split the whole budget was spent.
@@ -123,13 +142,13 @@ Subject matrix(const std::string& data, const std::string& name) {
     std::ifstream file(data + "/" + name + ".mtx", std::ios::binary);
     std::string text{std::istreambuf_iterator<char>(file), {}};
     Subject subject;
-    subject.list.resize(2 * baseline::most_nonzeros);
+    subject.list.resize(baseline::entry_size * baseline::most_nonzeros);
     baseline::TextContent content;
     baseline::read_text(text, subject.list.data(), subject.list.size(), nullptr, 0, content);
     subject.name = name;
     subject.rows = content.rows;
     subject.columns = content.columns;
-    subject.list.resize(2 * content.nonzeros);
+    subject.list.resize(baseline::entry_size * content.nonzeros);
     subject.cap = cap_at_3_percent(subject.nonzeros());
     return subject;
 }
@@ -155,7 +174,8 @@ std::string outcome(const Measure& measure) {
 // One row for each implementation; ratios to the first, plain.
 void print_subject(const Subject& subject, uint64_t budget) {
     double plain_rate = 0;
-    for (const Implementation& one : implementations()) {
+    for (const Implementation& one : all_implementations()) {
+        if (!takes(one, subject)) continue;
         Measure found = measured(one.function, subject, budget);
         if (plain_rate == 0) plain_rate = found.rate();
         std::printf("| %s | %llu | %llu | %s | %s | %llu | %.0f | %.0f (%.0f) | %.1f | %ld |\n",
@@ -176,23 +196,33 @@ void print_speed(const std::string& data, uint64_t budget) {
         print_subject(matrix(data, name), budget);
     print_subject(random_subject(30, 30, 200, 1), budget);
     print_subject(random_subject(100, 100, 1500, 1), budget);
+    print_subject(random_subject(300, 300, 4000, 1), budget);
 }
 
-// How the cost of a try grows: one shape, more and more nonzeros.
-void print_growth(uint64_t budget) {
-    std::printf("\nNanoseconds a try by N, random patterns of 120 by 120, budget %llu\n\n| N |",
-                (unsigned long long)budget);
-    for (const Implementation& one : implementations()) std::printf(" %s |", one.name.c_str());
-    std::printf("\n|---|");
-    for (size_t at = 0; at < implementations().size(); ++at) std::printf("---|");
+void print_growth_row(uint64_t side, uint64_t nonzeros, uint64_t budget) {
+    Subject subject = random_subject(side, side, nonzeros, 2);
+    std::printf("| %llu by %llu | %llu |", (unsigned long long)side, (unsigned long long)side,
+                (unsigned long long)nonzeros);
+    for (const Implementation& one : all_implementations())
+        if (takes(one, subject))
+            std::printf(" %.0f |", measured(one.function, subject, budget).nanoseconds());
+        else
+            std::printf(" |");
     std::printf("\n");
-    for (uint64_t nonzeros : {125, 250, 500, 1000, 1500, 2000}) {
-        std::printf("| %llu |", (unsigned long long)nonzeros);
-        for (const Implementation& one : implementations())
-            std::printf(" %.0f |", measured(one.function, random_subject(120, 120, nonzeros, 2),
-                                            budget).nanoseconds());
-        std::printf("\n");
-    }
+}
+
+// How the cost of a try grows: two shapes, more and more nonzeros.
+void print_growth(uint64_t budget) {
+    std::printf("\nNanoseconds a try by N, random patterns, budget %llu\n\n| pattern | N |",
+                (unsigned long long)budget);
+    for (const Implementation& one : all_implementations()) std::printf(" %s |", one.name.c_str());
+    std::printf("\n|---|---|");
+    for (size_t at = 0; at < all_implementations().size(); ++at) std::printf("---|");
+    std::printf("\n");
+    for (uint64_t nonzeros : {125, 250, 500, 1000, 1500, 2000})
+        print_growth_row(120, nonzeros, budget);
+    for (uint64_t nonzeros : {500, 1000, 2000, 3000, 4000})
+        print_growth_row(300, nonzeros, budget);
 }
 
 }  // namespace

@@ -17,21 +17,32 @@ extern "C" {
 #endif
 
 /* The limits. */
-#define GULZORENO_MOST_LINES 120      /* rows, and columns; at least 1 of each */
-#define GULZORENO_MOST_NONZEROS 2000  /* and at most rows times columns */
-#define GULZORENO_MOST_CAP 2000       /* nonzeros of one part */
+#define GULZORENO_MOST_LINES 300      /* rows, and columns; at least 1 of each */
+#define GULZORENO_MOST_NONZEROS 4000  /* and at most rows times columns */
+#define GULZORENO_MOST_CAP 4000       /* nonzeros of one part */
 #define GULZORENO_MOST_BUDGET 1000000 /* tries of one call */
+
+/* An entry of the list: its row in two bytes, lowest first, then its column likewise, both counted from 0. */
+#define GULZORENO_ENTRY 4
+#define GULZORENO_AT_ROW 0
+#define GULZORENO_AT_COLUMN 2
+
+/* The bytes of its stack that a call takes at most. A thread that makes calls should have a stack of these and a fifth more. It
+ * is where a bound's matching is searched that the most is taken: from a row to a column and on to the next row, one call within
+ * another, through 299 rows at most. */
+#define GULZORENO_STACK 73728
 
 /* The answers other than a refusal. */
 #define GULZORENO_SPLIT 0      /* parts and figures are written */
 #define GULZORENO_NONE_YET 255 /* the budget ended before a split was found; nothing is written */
 
-/* A refusal is number + 256 * place, and then nothing is written. The place is the number of the offending nonzero for 5 and
- * 10, and 0 for the others. The checks are made in this order, and the first that fails is answered; 5 and 10 are checked for
- * nonzero 0, then for nonzero 1, and so on.
+/* A refusal is number + 256 * place, and then nothing is written. The place is the number of the offending nonzero for 17, 5
+ * and 10, and 0 for the others. The checks are made in this order, and the first that fails is answered; 17, 5 and 10 are
+ * checked for nonzero 0, then for nonzero 1, and so on.
  *
  *    4  too big       m, n or nonzeros outside its range
- *    9  short buffer  list has fewer than 2 * nonzeros bytes
+ *    9  short buffer  list has fewer than 4 * nonzeros bytes
+ *   17  split number  the high byte of a row or of a column is over 1
  *    5  off matrix    row not below m, or column not below n
  *   10  order         a nonzero does not come after the one before it, by row and then by column
  *   11  cap           cap0 or cap1 outside its range
@@ -48,6 +59,7 @@ extern "C" {
 #define GULZORENO_CAP 11
 #define GULZORENO_NO_SPLIT 12
 #define GULZORENO_BUDGET 13
+#define GULZORENO_SPLIT_NUMBER 17
 
 /* The figures: four numbers of eight bytes each, lowest byte first, at these offsets. */
 #define GULZORENO_FIGURES 32
@@ -58,11 +70,11 @@ extern "C" {
 
 /* Searches for a split of least volume, for at most `budget` tries.
  *
- *   m, n                  rows and columns, 1 to 120 each
- *   nonzeros              0 to 2000, and at most m * n
- *   list, list_len        the nonzeros: a row byte and a column byte for each, counted from 0, strictly rising by row and then
- *                         column. Bytes past the first 2 * nonzeros are not looked at
- *   cap0, cap1            most nonzeros of part 0 and of part 1, 0 to 2000 each
+ *   m, n                  rows and columns, 1 to 300 each
+ *   nonzeros              0 to 4000, and at most m * n
+ *   list, list_len        the nonzeros: four bytes for each, row low, row high, column low and column high, counted from 0,
+ *                         strictly rising by row and then column. Bytes past the first 4 * nonzeros are not looked at
+ *   cap0, cap1            most nonzeros of part 0 and of part 1, 0 to 4000 each
  *   budget                most tries, 0 to 1000000. A search makes all of them unless it is complete before
  *   parts, parts_len      out: the part, 0 or 1, of each nonzero in the list's order. Bytes past the first `nonzeros` stay
  *   figures, figures_len  out: 32 bytes. Bytes past them stay
@@ -79,7 +91,8 @@ extern "C" {
  *
  * The function allocates nothing, keeps nothing between calls and has no state of its own, so that equal arguments give equal
  * answers, every call starts its search anew, and threads may call it at once, with one list for all of them if they like, but
- * each with parts and figures of its own. Allow it 64 kilobytes of stack. */
+ * each with parts and figures of its own. A call takes at most GULZORENO_STACK bytes of its stack; a thread should have these
+ * and a fifth more. */
 uint64_t gulzoreno_bipartition(uint64_t m, uint64_t n, uint64_t nonzeros,
                                const uint8_t *list, size_t list_len,
                                uint64_t cap0, uint64_t cap1, uint64_t budget,

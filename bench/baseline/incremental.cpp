@@ -2,6 +2,8 @@
 // grows and shrinks. Validity, L1, L2 and the leaning lines of a marking with one
 // more mark are known before that mark is placed; over these, as sets, the
 // matching of L4 is searched and its looks are counted; L3 comes from kept counts.
+// The sets have two words, or five where a pattern has more than 128 lines on a side.
+#include "set.hpp"
 #include "walk.hpp"
 
 #include <algorithm>
@@ -10,63 +12,26 @@ namespace baseline {
 
 namespace {
 
-// The number of ones in each group of four bits.
-uint64_t ones_by_four(uint64_t word) {
-    word -= word >> 1 & 0x5555555555555555;
-    return (word & 0x3333333333333333) + (word >> 2 & 0x3333333333333333);
-}
+// Here a line's number is its side (0 for rows, 1 for columns) times a stride,
+// which is more than any place, plus its place on that side.
+using LineNumber = uint16_t;
 
-int ones(uint64_t low, uint64_t high) {
-    uint64_t fours = ones_by_four(low) + ones_by_four(high);   // each at most 8
-    uint64_t eights = (fours & 0x0f0f0f0f0f0f0f0f) + (fours >> 4 & 0x0f0f0f0f0f0f0f0f);
-    return int(eights * 0x0101010101010101 >> 56);
-}
+template <int words>
+constexpr int stride = word_bits * words;
 
-// A set of numbers below 128: the rows, or the columns.
-struct Set {
-    uint64_t low = 0, high = 0;
-
-    bool empty() const { return (low | high) == 0; }
-    int size() const { return ones(low, high); }
-    int first() const { return low ? __builtin_ctzll(low) : 64 + __builtin_ctzll(high); }
-    bool has(int number) const { return (number < 64 ? low >> number : high >> (number - 64)) & 1; }
-    void add(int number) { (number < 64 ? low : high) |= uint64_t(1) << (number & 63); }
-    void remove(int number) { (number < 64 ? low : high) &= ~(uint64_t(1) << (number & 63)); }
-};
-
-Set both(Set a, Set b) { return {a.low & b.low, a.high & b.high}; }
-Set either(Set a, Set b) { return {a.low | b.low, a.high | b.high}; }
-Set without(Set a, Set b) { return {a.low & ~b.low, a.high & ~b.high}; }
-
-// The numbers of a set above one of them.
-Set above(Set set, int number) {
-    uint64_t mask = ~uint64_t(1) << (number & 63);
-    return number < 64 ? Set{set.low & mask, set.high} : Set{0, set.high & mask};
-}
-
-template <class Visit>
-void for_each(Set set, Visit visit) {
-    for (uint64_t left = set.low; left; left &= left - 1) visit(__builtin_ctzll(left));
-    for (uint64_t left = set.high; left; left &= left - 1) visit(64 + __builtin_ctzll(left));
-}
-
-// Here a line's number is its side (0 for rows, 1 for columns) times 128 plus
-// its place on that side: it fits a byte.
-using LineNumber = uint8_t;
-constexpr int stride = 128;
-
-int side_of(int line) { return line / stride; }
-int place_of(int line) { return line % stride; }
-
-struct Line {
-    Set crossing;               // the lines of the other side it has nonzeros in
-    uint8_t size = 0;
+template <int words>
+struct LineOf {
+    SetOf<words> crossing;       // the lines of the other side it has nonzeros in
+    uint16_t size = 0;
+    uint16_t taken[2] = {0, 0};  // by part; stands still while the line is marked
     Mark mark = unmarked;
-    uint8_t taken[2] = {0, 0};  // by part; stands still while the line is marked
 };
 
-using Lines = std::array<Line, 2 * stride>;
-using Leaning = std::array<std::array<Set, 2>, 2>;   // by side and part
+template <int words>
+using LinesOf = std::array<LineOf<words>, 2 * stride<words>>;
+
+template <int words>
+using LeaningOf = std::array<std::array<SetOf<words>, 2>, 2>;   // by side and part
 
 struct Matched {
     int size = 0;
@@ -74,8 +39,13 @@ struct Matched {
 };
 
 // The search for the matching of L4, to the letter of document 02.
+template <int words>
 class Matching {
 public:
+    using Set = SetOf<words>;
+    using Lines = LinesOf<words>;
+    using Leaning = LeaningOf<words>;
+
     explicit Matching(const Lines& lines) : lines(lines) {}
 
     // Rows leaning to one part share no conflict column with rows leaning to the
@@ -97,7 +67,7 @@ private:
     Set conflicts_of(int row) const { return both(lines[row].crossing, conflict_columns); }
 
     // A start from each of these rows that has conflicts with these columns.
-    void search(Set rows, Set columns) {
+    void search(const Set& rows, const Set& columns) {
         if (columns.empty()) return;
         conflict_columns = columns;
         matched = {};
@@ -131,7 +101,7 @@ private:
     // Meets the conflicts of a row up to that with a fresh column, all but this
     // with columns entered before.
     void enter(Visit& visit, int column) {
-        Set later = above(visit.left, column);
+        Set later = visit.left.above(column);
         found.looks += uint64_t(without(visit.left, later).size());
         visit.left = later;
         visit.column = LineNumber(column);
@@ -147,24 +117,35 @@ private:
     const Lines& lines;
     Matched found;
     Set conflict_columns, matched;
-    std::array<LineNumber, stride> row_of;     // by matched column
-    std::array<Visit, most_side + 1> path;
+    std::array<LineNumber, stride<words>> row_of;   // by matched column
+    std::array<Visit, stride<words> + 1> path;
 };
 
 // A valid marking with all that follows from it. Marks are lifted in the
 // reverse of the order in which they were placed.
+template <int words>
 class Live {
 public:
+    using Set = SetOf<words>;
+    using Line = LineOf<words>;
+    using Lines = LinesOf<words>;
+    using Leaning = LeaningOf<words>;
+
     Live(const Live&) = delete;
     Live(const Pattern& pattern, const Caps& caps)
         : cap{int(caps[0]), int(caps[1])}, matching(lines) {
         for (int nonzero = 0; nonzero < pattern.nonzeros; ++nonzero) {
             int row = pattern.row[nonzero], column = pattern.column[nonzero] - pattern.rows;
-            lines[row].crossing.add(column);
-            lines[stride + column].crossing.add(row);
+            lines[number(0, row)].crossing.add(column);
+            lines[number(1, column)].crossing.add(row);
         }
-        for (int row = 0; row < pattern.rows; ++row) set_up(row);
-        for (int column = 0; column < pattern.columns; ++column) set_up(stride + column);
+        for (int row = 0; row < pattern.rows; ++row) set_up(number(0, row));
+        for (int column = 0; column < pattern.columns; ++column) set_up(number(1, column));
+    }
+
+    // The number here of a line of the pattern.
+    static int number_of(const Pattern& pattern, int line) {
+        return line < pattern.rows ? number(0, line) : number(1, line - pattern.rows);
     }
 
     Mark mark(int line) const { return lines[line].mark; }
@@ -212,7 +193,7 @@ public:
         taken[mark] += it.size - it.taken[mark];
         int other_side = 1 - side_of(line);
         for_each(both(it.crossing, unmarked_lines[other_side]),
-                 [&](int place) { take(other_side * stride + place, mark); });
+                 [&](int place) { take(number(other_side, place), mark); });
     }
 
     void lift(int line) {
@@ -222,7 +203,7 @@ public:
         } else {
             int other_side = 1 - side_of(line);
             for_each(both(it.crossing, unmarked_lines[other_side]),
-                     [&](int place) { give_back(other_side * stride + place, it.mark); });
+                     [&](int place) { give_back(number(other_side, place), it.mark); });
             taken[it.mark] -= it.size - it.taken[it.mark];
         }
         it.mark = unmarked;
@@ -252,8 +233,12 @@ public:
     }
 
 private:
+    static int number(int side, int place) { return side * stride<words> + place; }
+    static int side_of(int line) { return line / stride<words>; }
+    static int place_of(int line) { return line % stride<words>; }
+
     void set_up(int line) {
-        lines[line].size = uint8_t(lines[line].crossing.size());
+        lines[line].size = uint16_t(lines[line].crossing.size());
         widest = std::max(widest, int(lines[line].size));
         unmarked_lines[side_of(line)].add(place_of(line));
         untouched[side_of(line)].add(place_of(line));
@@ -348,15 +333,12 @@ private:
     std::array<int, 2> taken = {0, 0};             // D0, D1
     int cut = 0, torn = 0;                         // L1, L2
     std::array<int, 2> leaning_sum = {0, 0};       // s of each part
-    std::array<std::array<uint8_t, most_side + 1>, 2> lines_with{};  // by part, untaken
-    Matching matching;
+    std::array<std::array<uint16_t, stride<words> + 1>, 2> lines_with{};  // by part, untaken
+    Matching<words> matching;
 };
 
-int live_number(const Pattern& pattern, int line) {
-    return line < pattern.rows ? line : stride + line - pattern.rows;
-}
-
 // The walk with a live marking: all marks of the trail but the last are placed.
+template <int words>
 class Search {
 public:
     Search(const Pattern& pattern, const Record& record)
@@ -364,7 +346,7 @@ public:
           depth(int(pattern.depth())), best_count(int(record.best_count)),
           complete(record.complete) {
         for (int at = 0; at < depth; ++at)
-            order[at] = LineNumber(live_number(pattern, pattern.order[at]));
+            order[at] = LineNumber(Live<words>::number_of(pattern, pattern.order[at]));
         if (complete) return;
         for (; placed + 1 < int(record.trail.size()); ++placed)
             live.place(order[placed], record.trail[placed]);
@@ -469,7 +451,7 @@ private:
         record.best.push_back(last);
     }
 
-    Live live;
+    Live<words> live;
     std::array<LineNumber, most_lines> order;
     bool unequal;          // the caps: mark 1 is allowed before any 0
     int depth;
@@ -480,26 +462,41 @@ private:
     bool complete;
 };
 
+template <int words>
+Evaluation evaluated(const Pattern& pattern, const Caps& caps, const LineMarks& marks) {
+    Live<words> live(pattern, caps);
+    for (int line = 0; line < pattern.lines(); ++line) {
+        if (marks[line] == unmarked) continue;
+        int number = Live<words>::number_of(pattern, line);
+        if (!live.fits(number, marks[line])) return {};
+        live.place(number, marks[line]);
+    }
+    return live.evaluation();
+}
+
+constexpr int narrow = 2;                                        // words of a set
+constexpr int wide = (most_side + word_bits - 1) / word_bits;
+
+bool is_narrow(const Pattern& pattern) {
+    return std::max(pattern.rows, pattern.columns) <= stride<narrow>;
+}
+
 class Incremental : public Walk {
 public:
     void make_tries(const Pattern& pattern, Record& record, uint64_t budget) const override {
-        Search(pattern, record).run(record, budget);
+        if (is_narrow(pattern)) Search<narrow>(pattern, record).run(record, budget);
+        else Search<wide>(pattern, record).run(record, budget);
     }
 
     uint64_t floor(const Pattern& pattern, const Record& record) const override {
-        return uint64_t(Search(pattern, record).floor());
+        return uint64_t(is_narrow(pattern) ? Search<narrow>(pattern, record).floor()
+                                           : Search<wide>(pattern, record).floor());
     }
 
     Evaluation evaluate(const Pattern& pattern, const Caps& caps,
                         const LineMarks& marks) const override {
-        Live live(pattern, caps);
-        for (int line = 0; line < pattern.lines(); ++line) {
-            if (marks[line] == unmarked) continue;
-            int number = live_number(pattern, line);
-            if (!live.fits(number, marks[line])) return {};
-            live.place(number, marks[line]);
-        }
-        return live.evaluation();
+        return is_narrow(pattern) ? evaluated<narrow>(pattern, caps, marks)
+                                  : evaluated<wide>(pattern, caps, marks);
     }
 };
 

@@ -10,6 +10,8 @@ namespace {
 
 enum Condition : uint8_t { leaning_0, leaning_1, torn, untouched, marked };
 
+using Count = uint16_t;   // of nonzeros or of lines
+
 // Everything one evaluation works with, by line number.
 class Evaluator {
 public:
@@ -88,12 +90,12 @@ private:
 
     // Lines leaning to `part` that must be struck out, most untaken first.
     int strikes(int part) const {
-        std::array<int, most_side + 1> lines_with{};
+        std::array<Count, most_side + 1> lines_with{};
         for (int line = 0; line < pattern.lines(); ++line)
             if (condition[line] == part) ++lines_with[untaken[line]];
         int excess = leaning_nonzeros[part] - (cap[part] - result.taken[part]);
         int struck = 0;
-        for (int size = most_side; size > 0; --size)
+        for (int size = std::max(pattern.rows, pattern.columns); size > 0; --size)
             for (int line = 0; line < lines_with[size] && excess > 0; ++line) {
                 excess -= size;
                 ++struck;
@@ -134,13 +136,13 @@ private:
     std::array<int, 2> cap;   // by part
     const LineMarks& marks;
     Evaluation result;
-    std::array<std::array<int, most_lines>, 2> taken{};
+    std::array<std::array<Count, most_lines>, 2> taken{};
     std::array<Condition, most_lines> condition;
-    std::array<int, most_lines> untaken{};
+    std::array<Count, most_lines> untaken{};
     std::array<int, 2> leaning_nonzeros = {0, 0};
-    std::array<int, most_side> first_conflict{}, last_conflict{};
+    std::array<Count, most_side> first_conflict{}, last_conflict{};
     std::array<int, most_nonzeros> conflict_column;
-    int conflicts = 0;
+    Count conflicts = 0;
     std::array<int, most_lines> matched_row;
     std::array<bool, most_lines> entered;
 };

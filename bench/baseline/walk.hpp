@@ -1,9 +1,11 @@
 // The walk of document 01 (exact bipartitioning of a sparse pattern), with the
-// two caps and the looks of document 02, twice, behind one interface. walk.cpp
-// holds what both share: the checks with their refusals, the opening, the showing
-// and the C functions. plain.cpp and incremental.cpp each hold one way of making
-// tries, counting looks and finding the floor.
+// two caps, the looks and the limits of document 02, twice, behind one interface.
+// walk.cpp holds what both share: the checks with their refusals, the opening, the
+// showing and the C functions. plain.cpp and incremental.cpp each hold one way of
+// making tries, counting looks and finding the floor.
 #pragma once
+
+#include "list.hpp"
 
 #include <array>
 #include <cstddef>
@@ -12,9 +14,9 @@
 
 namespace baseline {
 
-constexpr uint64_t most_side = 120;           // rows, and columns
-constexpr uint64_t most_nonzeros = 2000;
-constexpr uint64_t most_cap = 2000;
+constexpr uint64_t most_side = 300;           // rows, and columns
+constexpr uint64_t most_nonzeros = 4000;
+constexpr uint64_t most_cap = 4000;
 constexpr uint64_t most_percent = 100;
 constexpr uint64_t most_budget = 1000000;     // a call
 constexpr uint64_t most_tries = 10000000000000;  // a search; so that looks fit eight bytes
@@ -30,7 +32,7 @@ struct Answer {
 enum : uint64_t {
     banner = 1, size_line, entry_form, too_big, off_matrix, repeated, count,
     part, short_buffer, order, cap_range, no_split, budget_range, state,
-    not_square, above_diagonal
+    not_square, above_diagonal, split_number
 };
 
 // Marks of lines. A marking of a trail holds only the first three.
@@ -42,13 +44,6 @@ using Marking = std::vector<Mark>;
 // allowed before any 0.
 using Caps = std::array<uint64_t, 2>;
 inline Caps equal_caps(uint64_t cap) { return {cap, cap}; }
-
-// A list as a caller lends it: nothing about it is known yet.
-struct List {
-    uint64_t rows, columns, nonzeros;
-    const uint8_t* bytes;
-    size_t length;
-};
 
 // A checked list taken apart. Row i is line i, column j is line rows + j.
 struct Pattern {
@@ -118,7 +113,7 @@ struct Capped {
 // with it for both parts is never refused 12.
 Answer cap_from_percent(uint64_t nonzeros, uint64_t percent, Capped&);
 
-// Checks 4, 9, then per nonzero 5 and 10.
+// Checks 4, 9, then per nonzero 17, 5 and 10.
 Answer check_list(const List&);
 Pattern take_apart(const List& checked);
 

@@ -1,4 +1,4 @@
--- The first bytes of an input are enough: a first line of at most 64 bytes, a text at the limit, and one byte more.
+-- The first bytes of an input are enough: a first line and a text, each at its limit, and one byte more.
 -- Assumes nothing.
 use mathlib.Core.Bool.{Bool, false}
 use mathlib.Core.List.{List}
@@ -26,14 +26,14 @@ use Rattle.texts.specs.Reading.{answerRead, textVerdict, readVerdict, readCall}
 use Rattle.answering.specs.declared.Command.{Command}
 use Rattle.answering.specs.FirstLine.{#percent, #budget, commandOf}
 use Rattle.answering.specs.Answer.{listRoom, partsRoom, Answer, gives-refusal, printedAs, patternAnswer, answerTo, answerText}
-use Rattle.answering.specs.Printing.{inputRoom}
+use Rattle.answering.specs.Printing.{firstLineLimit, inputRoom}
 use Rattle.scanning.proofs.Scans.{stretch-after}
 use Rattle.answering.proofs.FirstLine.{stretch-within}
 use Rattle.answering.proofs.Steps.{text-refused}
 
--- two inputs have the same first 64 bytes
+-- two inputs have the same bytes where a first line can stand
 abbrev Alike : List ℕ → List ℕ → Type 0
-Alike a b = (i : ℕ) → i < 64 → getD a i 0 ≡ getD b i 0
+Alike a b = (i : ℕ) → i < firstLineLimit → getD a i 0 ≡ getD b i 0
 
 past-same : (p q : ℕ → Bool) (at k : ℕ) → ((i : ℕ) → i < at + k → p i ≡ q i) → past p at k ≡ past q at k
 unfolding past
@@ -43,7 +43,7 @@ past-same p q at (suc k) h =
     ∙ ap (λ (x : ℕ). pick (q at) x at) (past-same p q (at + 1) k (λ i l. h i (omega arith)))
 
 module _ (a b : List ℕ) (same : Alike a b) where
-  stretch-same : (stretch : Stretch) (at stop : ℕ) → at ≤ 64 → stop ≤ 64 → stretchEnd stretch a at stop ≡ stretchEnd stretch b at stop
+  stretch-same : (stretch : Stretch) (at stop : ℕ) → at ≤ firstLineLimit → stop ≤ firstLineLimit → stretchEnd stretch a at stop ≡ stretchEnd stretch b at stop
   unfolding stretchEnd stretchesAt
   stretch-same stretch at stop h g =
       past-same
@@ -54,7 +54,7 @@ module _ (a b : List ℕ) (same : Alike a b) where
       (λ i l. ap (λ (x : ℕ). stretchesOver stretch (classOf x)) (same i (omega arith)))
 
   word-same :
-      (from stop : ℕ) (word : List ℕ) → from + length word ≤ 64 → sameWord a from stop false word ≡ sameWord b from stop false word
+      (from stop : ℕ) (word : List ℕ) → from + length word ≤ firstLineLimit → sameWord a from stop false word ≡ sameWord b from stop false word
   unfolding sameWord spells
   word-same from stop word h =
       ap
@@ -66,25 +66,25 @@ module _ (a b : List ℕ) (same : Alike a b) where
       (length word)
       (λ i l. ap (λ (x : ℕ). eqb (cased false x) (getD word i 0)) (same (from + i) (omega arith))))
 
-  number-same : (from stop : ℕ) → from ≤ 64 → stop ≤ 64 → isNumber a from stop ≡ isNumber b from stop
+  number-same : (from stop : ℕ) → from ≤ firstLineLimit → stop ≤ firstLineLimit → isNumber a from stop ≡ isNumber b from stop
   unfolding isNumber
   number-same from stop h g =
       ap (λ (x : ℕ). ltb from stop and (leb (stop - from) 9 and eqb x stop)) (stretch-same Digits from stop h g)
 
-  digits-same : (from k : ℕ) → from + k ≤ 64 → valueOf a from k ≡ valueOf b from k
+  digits-same : (from k : ℕ) → from + k ≤ firstLineLimit → valueOf a from k ≡ valueOf b from k
   unfolding valueOf
   digits-same from zero h = refl
   digits-same from (suc k) h =
       ap (λ (x : ℕ). x * 10 + digitOf (getD a (from + k) 0)) (digits-same from k (omega arith))
       ∙ ap (λ (x : ℕ). valueOf b from k * 10 + digitOf x) (same (from + k) (omega arith))
 
-  value-same : (from stop : ℕ) → from ≤ stop → stop ≤ 64 → numberValue a from stop ≡ numberValue b from stop
+  value-same : (from stop : ℕ) → from ≤ stop → stop ≤ firstLineLimit → numberValue a from stop ≡ numberValue b from stop
   unfolding numberValue
   value-same from stop h g =
       ap (λ (t : Bool). pick t (valueOf a from (stop - from)) 0) (number-same from stop (omega arith) g)
       ∙ ap (λ (x : ℕ). pick (isNumber b from stop) x 0) (digits-same from (stop - from) (omega arith))
 
-  -- the first line ends within 64 bytes, and is the same
+  -- the first line ends within its limit, and is the same
   command-same : commandOf a ≡ commandOf b
   unfolding commandOf
   command-same =
@@ -98,7 +98,7 @@ module _ (a b : List ℕ) (same : Alike a b) where
       (stretch-same Digits 8 18 (omega arith) (omega arith), stretch-same Digits (stop + 8) (stop + 8 + 10) (omega arith) (omega arith), word-same 0 8 #percent (omega arith), word-same stop (stop + 8) #budget (omega arith), number-same 8 stop (omega arith) (omega arith), number-same (stop + 8) end (omega arith) (omega arith), value-same 8 stop starts (omega arith), value-same (stop + 8) end later (omega arith), same end (omega arith))
 
 -- where the text starts
-command-next : (input : List ℕ) → commandOf input .next ≤ 64
+command-next : (input : List ℕ) → commandOf input .next ≤ firstLineLimit
 unfolding commandOf
 command-next input =
     let stop = stretchEnd Digits input 8 18 in

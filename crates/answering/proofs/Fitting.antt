@@ -1,4 +1,4 @@
--- Every answer has at most 20,228 bytes, and so fits the program's output.
+-- Every answer has at most `writtenMost` bytes, and so fits the program's output.
 -- Assumes nothing.
 use mathlib.Core.List.{List, _++_}
 use mathlib.Core.Path.{_≡_, refl}

@@ -1,4 +1,4 @@
--- An output of 32,768 bytes has room for every answer: past that its length does not count.
+-- An output of `outputRoom` bytes has room for every answer: past that its length does not count.
 -- Assumes nothing.
 use mathlib.Core.List.{List}
 use mathlib.Core.Path.{_≡_, refl, sym, _∙_, ap}

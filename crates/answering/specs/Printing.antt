@@ -19,7 +19,7 @@ inputRoom = firstLineLimit + textLimit + 1
 
 -- bytes that have room for every answer
 abbrev pub outputRoom : ℕ
-outputRoom = 32_768
+outputRoom = 65_536
 
 -- an input before it is read
 unfoldable pub noInput : List ℕ

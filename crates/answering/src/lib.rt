@@ -15,7 +15,7 @@ pub struct Command {
 pub const INPUT_ROOM: usize = 65601;
 
 // Bytes that have room for every answer.
-pub const OUTPUT_ROOM: usize = 32768;
+pub const OUTPUT_ROOM: usize = 65536;
 
 // What the program prints: the first len bytes of its output.
 pub struct Printed {

@@ -6,6 +6,8 @@ use model::Search;
 use model::ShowAnswer;
 use model::Verdict;
 use model::Word;
+use model::limits::LIST_ROOM;
+use model::limits::PART_ROOM;
 use pattern::cap::cap_from_percent;
 use state::holding::complete_number;
 use texts::ReadAnswer;
@@ -81,7 +83,7 @@ fn put_search(
 ) -> usize
     ensures { λ r. ⌜ Puts (now (out .entry)) 0 (printedAs (searchAnswer rest m n nonzeros (now (list .entry)) search) (now (out .entry))) (now (out .exit)) r ⌝ }
 {
-    let mut parts = [0u8; 2000];
+    let mut parts = [0u8; PART_ROOM];
     let shown = search::show(search, m, n, nonzeros, list, &mut parts);
     let ShowAnswer::Split { volume, floor } = shown else {
         return put_line(shown, search.cap0, search.cap1, rest, search.tries, out);
@@ -160,8 +162,8 @@ fn put_pattern(
 fn put_text(text: &[u8], percent: u64, budget: u64, out: &mut [u8]) -> usize
     ensures { λ r. ⌜ Puts (now (out .entry)) 0 (printedAs (patternAnswer (now (text .entry)) percent budget) (now (out .entry))) (now (out .exit)) r ⌝ }
 {
-    let mut list = [0u8; 4000];
-    let mut parts = [0u8; 2000];
+    let mut list = [0u8; LIST_ROOM];
+    let mut parts = [0u8; PART_ROOM];
     let read = read(text, &mut list, &mut parts);
     match read {
         ReadAnswer::Read {

@@ -2,7 +2,7 @@
 -- Assumes nothing.
 use mathlib.Core.Bool.{true, false}
 use mathlib.Core.List.{List}
-use mathlib.Core.Path.{_≡_, sym, _∙_, ap}
+use mathlib.Core.Path.{_≡_, sym, _∙_, ap, subst}
 use mathlib.Core.Logic.{⊎-elim}
 use Prim.Native.Nat.{ℕ, zero, suc, _+_, _-_, _≤_, _<_, max}
 use native.Mathlib.Nat.{max-eq-left, max-eq-right}
@@ -12,31 +12,45 @@ use lib.ListN.{length, getD, getD-replicate}
 use borrow.Author.Tests.{ltb-true, eqb-true}
 use Rattle.counting.specs.Tests.{_and_}
 use Rattle.counting.proofs.Joined.{clash, or-cases, and-left}
-use Rattle.counting.proofs.Lists.{getD-any}
+use Rattle.trail.specs.Trail.{markRoom}
+use Rattle.model.specs.Limits.{lineRoom}
 use Rattle.model.specs.declared.Verdict.the-variants.{Accepted}
 use Rattle.model.specs.declared.Caps.{Caps}
-use Rattle.model.specs.Pattern.{Pattern, patternOf, lines, rowIn, columnIn}
-use Rattle.model.specs.Marking.{Marking, unmarked, place, marking, valid}
+use Rattle.model.specs.Pattern.{Pattern, patternOf, lines, rowIn, columnIn, columnLine}
+use Rattle.model.specs.Marking.{Marking, place, marking, valid}
 use Rattle.model.specs.Bound.{bound}
 use Rattle.model.specs.State.{arrayOf}
 use Rattle.model.specs.Calls.{rises, listVerdict}
 use Rattle.model.proofs.Theorems.Accepted.{list-accepted, accepted-inside}
+use Rattle.model.proofs.Theorems.Thin.{line-thin}
 use Rattle.model.proofs.Theorems.OfList.{lines-of}
+use Rattle.pattern.specs.Room.{within}
 use Rattle.pattern.specs.Splits.{noLines}
-use Rattle.matching.specs.Starts.{rowStart}
+use Rattle.pattern.proofs.Within.{within-all}
+use Rattle.matching.specs.Starts.{sideRoom, rowStart}
 use Rattle.marking.specs.Marks.{markBy, markFor}
 use Rattle.marking.proofs.Ordered.{mark-first}
 use Rattle.marking.proofs.Marked.{mark-by-is}
 use Rattle.weighing.specs.declared.taking.Taken.{Taken}
 use Rattle.weighing.specs.declared.leaning.Kinds.{Kinds}
 use Rattle.weighing.specs.Cells.{markingIn, Cleared}
-use Rattle.weighing.specs.Taking.{TakesOpen, validBy}
+use Rattle.weighing.specs.Taking.{Roomy, TakesOpen, validBy}
 use Rattle.weighing.specs.Leaning.{conditionIn, LeansAll}
+use Rattle.weighing.proofs.Stores.{at-line}
 use Rattle.weighing.proofs.Taken.{valid-by}
 use Rattle.weighing.proofs.Leans.{cut-is-L1, torn-is-L2, lean-leans}
 use Rattle.bound.specs.declared.Evaluation.{Evaluation}
 use Rattle.bound.specs.declared.lower.Lower.{Lower}
 use Rattle.bound.specs.Evaluated.{Listed, Placed, TakenOn, LeansAt, Lowered, Parts, NoBound, Evaluates}
+
+-- there is room for every line of an accepted list
+pub listed-few : {m n nonzeros : ℕ} {list starts : List ℕ} → Listed m n nonzeros list starts → m + n ≤ lineRoom
+listed-few k = omega (arith, k .rows-small, k .columns-small)
+
+pub listed-roomy :
+    {m n nonzeros : ℕ} {list starts : List ℕ} → Listed m n nonzeros list starts → Roomy (patternOf m n nonzeros list)
+unfolding patternOf columnLine
+listed-roomy k t b = omega (arith, k .inside .column-in t b, listed-few k)
 
 -- the bound of a valid marking
 pub bound-sum :
@@ -71,16 +85,20 @@ not-valid P caps μ t zero₀ one₀ zero₁ one₁ r k v e z o none =
       none = λ h. none;
     }
 
-module _ (m n nonzeros : ℕ) (list marks : List ℕ) {t : Taken} {by-zero by-one : List ℕ} (few : m + n < 512) (k : TakenOn (patternOf m n nonzeros list) (markingIn marks) t by-zero by-one) {s : Kinds} {lean₀ lean₁ : List ℕ} (h : LeansAll (conditionIn marks by-zero by-one) (m + n) s lean₀ lean₁) where
-  lines-few : lines (patternOf m n nonzeros list) < 512
+module _ (m n nonzeros : ℕ) (list marks : List ℕ) {t : Taken} {by-zero by-one : List ℕ} (few : m + n ≤ lineRoom) (roomy : Roomy (patternOf m n nonzeros list)) (k : TakenOn (patternOf m n nonzeros list) (markingIn marks) t by-zero by-one) {s : Kinds} {lean₀ lean₁ : List ℕ} (h : LeansAll (conditionIn marks by-zero by-one) (within (m + n)) s lean₀ lean₁) where
+  lines-few : lines (patternOf m n nonzeros list) ≤ lineRoom
   lines-few = omega (arith, lines-of m n nonzeros list)
 
   lean-all : LeansAll (conditionIn marks by-zero by-one) (lines (patternOf m n nonzeros list)) s lean₀ lean₁
-  lean-all = rw (lines-of m n nonzeros list) h
+  lean-all =
+      subst
+      (λ (total : ℕ). LeansAll (conditionIn marks by-zero by-one) total s lean₀ lean₁)
+      (within-all (m + n) few ∙ sym (lines-of m n nonzeros list))
+      h
 
   -- how lines lean, by the array
   pub leans-at : LeansAt (patternOf m n nonzeros list) (markingIn marks) lean₁
-  leans-at = lean-leans marks (k .zero-clear) (k .one-clear) (k .takes-all) lines-few lean-all
+  leans-at = lean-leans marks (k .zero-clear) (k .one-clear) (k .takes-all) roomy lines-few lean-all
 
   -- the parts of the evaluation
   pub parts-are :
@@ -93,8 +111,8 @@ module _ (m n nonzeros : ℕ) (list marks : List ℕ) {t : Taken} {by-zero by-on
         valid-is = sym (valid-by caps (k .takes-all)) ∙ v;
         zero-is = k .takes-all .zero-is;
         one-is = k .takes-all .one-is;
-        cut-is = cut-is-L1 marks (k .zero-clear) (k .one-clear) (k .takes-all) lines-few lean-all;
-        torn-is = torn-is-L2 marks (k .zero-clear) (k .one-clear) (k .takes-all) lines-few lean-all;
+        cut-is = cut-is-L1 marks (k .zero-clear) (k .one-clear) (k .takes-all) roomy lines-few lean-all;
+        torn-is = torn-is-L2 marks (k .zero-clear) (k .one-clear) (k .takes-all) roomy lines-few lean-all;
         struck-is = low .struck-is
             caps
             (ez ∙ ap (λ (d : ℕ). caps .cap0 - d) (k .takes-all .zero-is))
@@ -106,22 +124,23 @@ module _ (m n nonzeros : ℕ) (list marks : List ℕ) {t : Taken} {by-zero by-on
 -- an array of no lines is one of zeros
 pub none-cleared : (xs : List ℕ) → xs ≡ noLines → Cleared xs
 unfolding noLines
-none-cleared xs e l b = ap (λ (ys : List ℕ). getD ys l 0) e ∙ getD-replicate 512 l 0 0 b
+none-cleared xs e l b = ap (λ (ys : List ℕ). getD ys l 0) e ∙ getD-replicate lineRoom l 0 0 b
 
 -- the marks by line are those of the marking
 pub by-line :
-    (m n nonzeros : ℕ) (list places marks entries : List ℕ) (len total : ℕ) → total ≡ m + n → total < 512 →
-    (length entries ≡ 512) × ((l : ℕ) → l < 512 → getD entries l 0 ≡ markFor total places marks len l) →
+    (m n nonzeros : ℕ) (list places marks entries : List ℕ) (len total : ℕ) → total ≡ within (m + n) → m + n ≤ lineRoom →
+    (length entries ≡ lineRoom) × ((l : ℕ) → l < lineRoom → getD entries l 0 ≡ markFor total places marks len l) →
     Placed (patternOf m n nonzeros list) places →
-    (τ : List ℕ) → length τ ≤ 240 → marks ≡ arrayOf τ → len ≡ length τ →
+    (τ : List ℕ) → length τ ≤ markRoom → marks ≡ arrayOf τ → len ≡ length τ →
     (l : ℕ) → l < lines (patternOf m n nonzeros list) →
     markingIn entries l ≡ marking (patternOf m n nonzeros list) τ l
 unfolding marking markingIn
 by-line m n nonzeros list places marks entries len total et few e k τ short em el l b =
     let P = patternOf m n nonzeros list in
-    let c : l < total = omega (arith, et, lines-of m n nonzeros list) in
-    getD-any entries l unmarked 0 (omega (arith, e .0))
-    ∙ e .1 l (omega arith)
+    let c : l < total = omega (arith, et, within-all (m + n) few, lines-of m n nonzeros list) in
+    let d : l < lineRoom = omega (arith, et, within-all (m + n) few) in
+    at-line entries l d
+    ∙ e .1 l d
     ∙ mark-first total places marks len l c
     ∙ ap (markBy marks len) (k .placed l b)
     ∙ ap (λ (xs : List ℕ). markBy xs len (place P l)) em
@@ -151,7 +170,7 @@ rises-rows list t h =
 
 pub accepted-listed :
     (m n nonzeros : ℕ) (list starts : List ℕ) → listVerdict m n nonzeros list ≡ Accepted →
-    ((m n i : ℕ) → i ≤ 256 → getD starts i 0 ≡ rowStart (patternOf m n nonzeros list) i) →
+    ((m n i : ℕ) → i ≤ sideRoom → getD starts i 0 ≡ rowStart (patternOf m n nonzeros list) i) →
     Listed m n nonzeros list starts
 accepted-listed m n nonzeros list starts h s =
     let fine = list-accepted m n nonzeros list h in
@@ -161,5 +180,6 @@ accepted-listed m n nonzeros list starts h s =
       small = fine .size-to;
       inside = accepted-inside m n nonzeros list h;
       rising = λ t b. rises-rows list t (fine .rising (suc t) b);
+      thin = line-thin m n nonzeros list h;
       started = s m n;
     }

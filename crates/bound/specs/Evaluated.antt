@@ -9,14 +9,14 @@ use lib.ListN.{getD}
 use Rattle.model.specs.declared.Part.{Part}
 use Rattle.model.specs.declared.Part.the-variants.{Zero, One}
 use Rattle.model.specs.declared.Caps.{Caps}
-use Rattle.model.specs.Limits.{lineLimit, nonzeroLimit}
-use Rattle.model.specs.Pattern.{Pattern, Inside, patternOf, lines, rowIn}
+use Rattle.model.specs.Limits.{lineRoom, lineLimit, nonzeroLimit}
+use Rattle.model.specs.Pattern.{Pattern, Inside, patternOf, lines, lineCount, rowIn}
 use Rattle.model.specs.Split.{partNumber}
 use Rattle.model.specs.Marking.{Marking, place, taken, valid}
 use Rattle.model.specs.Bound.{leans, L1, L2, L3, L4, bound}
 use Rattle.model.specs.Matching.{looks}
 use Rattle.matching.specs.declared.augmenting.Matching.{Matching}
-use Rattle.matching.specs.Starts.{rowStart}
+use Rattle.matching.specs.Starts.{sideRoom, rowStart}
 use Rattle.weighing.specs.declared.taking.Taken.{Taken}
 use Rattle.weighing.specs.declared.leaning.Kinds.{Kinds}
 use Rattle.weighing.specs.Cells.{Cleared}
@@ -31,12 +31,13 @@ pub record Listed (m n nonzeros : ℕ) (list starts : List ℕ) : Type 0 where
   pub small : nonzeros ≤ nonzeroLimit
   pub inside : Inside (patternOf m n nonzeros list)
   pub rising : (t : ℕ) → suc t < nonzeros → rowIn list t ≤ rowIn list (suc t)
-  pub started : (i : ℕ) → i ≤ 256 → getD starts i 0 ≡ rowStart (patternOf m n nonzeros list) i
+  pub thin : (l : ℕ) → lineCount (patternOf m n nonzeros list) l ≤ lineLimit
+  pub started : (i : ℕ) → i ≤ sideRoom → getD starts i 0 ≡ rowStart (patternOf m n nonzeros list) i
 
 -- the places of its lines, and 0 past them
 pub record Placed (P : Pattern) (places : List ℕ) : Type 0 where
   pub placed : (l : ℕ) → l < lines P → getD places l 0 ≡ place P l
-  pub others : (l : ℕ) → lines P ≤ l → l < 512 → getD places l 0 ≡ 0
+  pub others : (l : ℕ) → lines P ≤ l → l < lineRoom → getD places l 0 ≡ 0
 
 -- no L1 to L4, no bound and no looks are given
 abbrev pub NoBound : Evaluation → Type 0

@@ -3,11 +3,14 @@ use crate::Evaluation;
 use crate::lower::Lower;
 use crate::lower::lower_of;
 use crate::lower::room_of;
-use crate::tables::lines_of;
 use marking::marks::marks_by_line;
 use model::Caps;
+use model::limits::LINE_ROOM;
+use model::limits::SIDE_ENDS;
 use pattern::reading::long16;
+use pattern::room::lines_of;
 use pattern::splits::no_lines;
+use trail::MARK_ROOM;
 use weighing::leaning::Kinds;
 use weighing::leaning::lean_all;
 use weighing::rows::take_lines;
@@ -18,6 +21,8 @@ ghost use mathlib.Core.List.{List};
 ghost use mathlib.Core.Path.{_≡_};
 ghost use Prim.Native.Nat.{ℕ, _+_, _≤_, _<_};
 ghost use lib.ListN.{length, getD};
+ghost use Rattle.trail.specs.Trail.{markRoom};
+ghost use Rattle.model.specs.Limits.{lineRoom};
 ghost use Rattle.model.specs.declared.Caps.{Caps};
 ghost use Rattle.model.specs.Pattern.{Pattern, patternOf};
 ghost use Rattle.model.specs.Marking.{Marking, marking};
@@ -27,10 +32,10 @@ ghost use Rattle.weighing.specs.Taking.{validBy};
 ghost use Rattle.bound.specs.Evaluated.{Listed, Placed, TakenOn, Parts, NoBound, Evaluates};
 
 // No line leans.
-fn no_leanings() -> [u8; 512]
-    ensures { λ r. ⌜ ((l : ℕ) → l < 512 → getD r l 0 ≡ 2) ⌝ }
+fn no_leanings() -> [u8; LINE_ROOM]
+    ensures { λ r. ⌜ ((l : ℕ) → l < lineRoom → getD r l 0 ≡ 2) ⌝ }
 {
-    [2u8; 512]
+    [2u8; LINE_ROOM]
 }
 
 // The evaluation of a marking that is not valid.
@@ -52,7 +57,7 @@ fn invalid(taken: Taken) -> Evaluation
 
 // The evaluation of a valid marking: the bound is L1 + L2 + the larger of L3 and L4.
 fn joined(taken: Taken, kinds: Kinds, lower: Lower) -> Evaluation
-    requires { ⌜ lower .matched ≤ 255 ⌝ }
+    requires { ⌜ lower .matched ≤ 65535 ⌝ }
     ensures { λ r. ⌜ ((P : Pattern) (caps : Caps) (μ : Marking) → Parts P caps μ taken kinds lower → Evaluates P caps μ r) ⌝ }
 {
     let struck = long16(lower.struck);
@@ -74,16 +79,16 @@ fn joined(taken: Taken, kinds: Kinds, lower: Lower) -> Evaluation
 
 // The evaluation of a valid marking, from what it takes.
 fn evaluate_valid(
-    m: u8,
-    n: u8,
+    m: u16,
+    n: u16,
     nonzeros: u16,
     list: &[u8],
     caps: Caps,
-    starts: &[u16; 257],
-    marks: &[u8; 512],
+    starts: &[u16; SIDE_ENDS],
+    marks: &[u8; LINE_ROOM],
     taken: Taken,
-    by_zero: &[u8; 512],
-    by_one: &[u8; 512],
+    by_zero: &[u8; LINE_ROOM],
+    by_one: &[u8; LINE_ROOM],
 ) -> Evaluation
     ensures { λ r. ⌜ (Listed m n nonzeros (now (list .entry)) (now (starts .entry)) →
         TakenOn (patternOf m n nonzeros (now (list .entry))) (markingIn (now (marks .entry))) taken (now («by_zero» .entry)) (now («by_one» .entry)) →
@@ -110,13 +115,13 @@ fn evaluate_valid(
 
 // The evaluation of a marking, given by the mark of each line: 0, 1, 2 for cut, 3 for none.
 pub fn evaluate_lines(
-    m: u8,
-    n: u8,
+    m: u16,
+    n: u16,
     nonzeros: u16,
     list: &[u8],
     caps: Caps,
-    starts: &[u16; 257],
-    marks: &[u8; 512],
+    starts: &[u16; SIDE_ENDS],
+    marks: &[u8; LINE_ROOM],
 ) -> Evaluation
     ensures { λ r. ⌜ (Listed m n nonzeros (now (list .entry)) (now (starts .entry)) →
         Evaluates (patternOf m n nonzeros (now (list .entry))) caps (markingIn (now (marks .entry))) r) ⌝ }
@@ -144,19 +149,19 @@ pub fn evaluate_lines(
 
 // The evaluation of a marking of the first lines in order, given by their marks.
 pub fn evaluate(
-    m: u8,
-    n: u8,
+    m: u16,
+    n: u16,
     nonzeros: u16,
     list: &[u8],
     caps: Caps,
-    places: &[u16; 512],
-    starts: &[u16; 257],
-    marks: &[u8; 240],
+    places: &[u16; LINE_ROOM],
+    starts: &[u16; SIDE_ENDS],
+    marks: &[u8; MARK_ROOM],
     len: usize,
 ) -> Evaluation
     ensures { λ r. ⌜ (Listed m n nonzeros (now (list .entry)) (now (starts .entry)) →
         Placed (patternOf m n nonzeros (now (list .entry))) (now (places .entry)) →
-        (τ : List ℕ) → length τ ≤ 240 → now (marks .entry) ≡ arrayOf τ → len ≡ length τ →
+        (τ : List ℕ) → length τ ≤ markRoom → now (marks .entry) ≡ arrayOf τ → len ≡ length τ →
         Evaluates (patternOf m n nonzeros (now (list .entry))) caps (marking (patternOf m n nonzeros (now (list .entry))) τ) r) ⌝ }
 {
     let by_line = marks_by_line(lines_of(m, n), places, marks, len);

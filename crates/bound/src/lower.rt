@@ -2,6 +2,8 @@
 use marking::order::no_counts;
 use matching::augmenting::Matching;
 use matching::augmenting::matching_of;
+use model::limits::LINE_ROOM;
+use model::limits::SIDE_ENDS;
 use weighing::striking::strike;
 use weighing::weights::weigh_lines;
 ghost use mathlib.Core.Path.{_≡_};
@@ -29,9 +31,15 @@ pub(crate) fn room_of(cap: u64, taken: u16) -> u64
 }
 
 // The matching of L4: without conflicts it is not searched.
-fn matched_of(m: u8, lean: &[u8; 512], list: &[u8], starts: &[u16; 257], conflicts: u16) -> Matching
+fn matched_of(
+    m: u16,
+    lean: &[u8; LINE_ROOM],
+    list: &[u8],
+    starts: &[u16; SIDE_ENDS],
+    conflicts: u16,
+) -> Matching
     ensures { λ r. ⌜ (r ≡ pick (eqb conflicts 0) noMatching (matchingIn (ground (now (lean .entry)) m (now (list .entry)) (now (starts .entry)))))
-        × (r .size ≤ 255) ⌝ }
+        × (r .size ≤ 65535) ⌝ }
 {
     if conflicts == 0 {
         return Matching { size: 0, looks: 0 };
@@ -41,17 +49,17 @@ fn matched_of(m: u8, lean: &[u8; 512], list: &[u8], starts: &[u16; 257], conflic
 
 // L3, L4 and its looks, with the room that each part has left.
 pub(crate) fn lower_of(
-    m: u8,
-    n: u8,
+    m: u16,
+    n: u16,
     nonzeros: u16,
     list: &[u8],
     zero_room: u64,
     one_room: u64,
-    starts: &[u16; 257],
-    marks: &[u8; 512],
-    lean: &[u8; 512],
+    starts: &[u16; SIDE_ENDS],
+    marks: &[u8; LINE_ROOM],
+    lean: &[u8; LINE_ROOM],
 ) -> Lower
-    ensures { λ r. ⌜ (r .matched ≤ 255) × (Listed m n nonzeros (now (list .entry)) (now (starts .entry)) →
+    ensures { λ r. ⌜ (r .matched ≤ 65535) × (Listed m n nonzeros (now (list .entry)) (now (starts .entry)) →
         LeansAt (patternOf m n nonzeros (now (list .entry))) (markingIn (now (marks .entry))) (now (lean .entry)) →
         Lowered (patternOf m n nonzeros (now (list .entry))) (markingIn (now (marks .entry))) «zero_room» «one_room» r) ⌝ }
 {

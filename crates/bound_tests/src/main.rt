@@ -5,15 +5,18 @@ use libc::STDIN_FILENO;
 use marking::marks::unmarked_lines;
 use matching::starts::row_starts;
 use model::Caps;
+use model::limits::LIST_ROOM;
 use pattern::reading::byte_at;
 use pattern::reading::long16;
 use testing::Kind;
 use testing::cases::field_at;
+use testing::cases::list_at;
 use testing::cases::number_at;
 use testing::laying::first;
 use testing::laying::lay_marks;
 use testing::saying::say;
 use testing::saying::say_number;
+use trail::MARK_ROOM;
 
 // The bound of a valid marking, with its parts and its looks.
 fn say_bound(e: Evaluation) {
@@ -39,18 +42,18 @@ fn say_all(e: Evaluation) {
 
 // A pattern and its caps as a case gives them, and the place of the next case.
 struct Given {
-    m: u8,
-    n: u8,
+    m: u16,
+    n: u16,
     nonzeros: u16,
     caps: Caps,
-    list: [u8; 64],
+    list: [u8; LIST_ROOM],
     len: usize,
     next: usize,
 }
 
 // The pattern whose case starts at a place.
 fn given_at(cases: &[u8], at: usize) -> Given {
-    let mut list = [0u8; 64];
+    let mut list = [0u8; LIST_ROOM];
     let kind = field_at(cases, at, Kind::Text, &mut []);
     let m = number_at(cases, kind.next);
     let n = number_at(cases, m.next);
@@ -61,10 +64,10 @@ fn given_at(cases: &[u8], at: usize) -> Given {
         cap0: cap0.value,
         cap1: cap1.value,
     };
-    let listed = field_at(cases, cap1.next, Kind::Numbers, &mut list);
+    let listed = list_at(cases, cap1.next, &mut list);
     Given {
-        m: (m.value % 256) as u8,
-        n: (n.value % 256) as u8,
+        m: (m.value % 65536) as u16,
+        n: (n.value % 65536) as u16,
         nonzeros: (nonzeros.value % 65536) as u16,
         caps,
         list,
@@ -95,7 +98,7 @@ fn say_marking(given: Given, letters: &[u8]) {
 
 // A marking of a pattern, and the place of the next case.
 fn marking_at(cases: &[u8], at: usize, given: Given) -> usize {
-    let mut page = [0u8; 64];
+    let mut page = [0u8; MARK_ROOM];
     let letters = field_at(cases, at, Kind::Text, &mut page);
     say_marking(given, first(&page, letters.value as usize));
     letters.next
@@ -119,7 +122,7 @@ fn pattern_at(cases: &[u8], at: usize, last: usize) -> usize {
 
 // Reads the cases and answers each of them in turn.
 fn main() {
-    let mut cases = [0u8; 4096];
+    let mut cases = [0u8; 8192];
     let len = io::read_full(STDIN_FILENO, &mut cases);
     let mut last: usize = 0;
     let mut at: usize = 0;

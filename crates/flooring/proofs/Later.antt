@@ -11,7 +11,7 @@ use borrow.Author.Tests.{le-ltb, ne-eqb}
 use Rattle.counting.specs.Tests.{_and_, pick}
 use Rattle.counting.proofs.Joined.{no-way, clash, and-eq, and-fails-left, pick-false}
 use Rattle.trail.specs.declared.Trail.{Trail}
-use Rattle.trail.specs.Trail.{hasLast, lastMark, mayBeOne, dropped, replaced}
+use Rattle.trail.specs.Trail.{markRoom, hasLast, lastMark, mayBeOne, dropped, replaced}
 use Rattle.trail.proofs.Methods.{topped, has-last}
 use Rattle.model.specs.Walk.{Rules, oneAllowed, putLater, beginningsLater, leastBound}
 use Rattle.model.specs.State.{trailOf}
@@ -29,11 +29,11 @@ put-picks first (suc (suc x)) τ =
     rw (ne-eqb (suc (suc x)) 0 (λ e. no-way (omega arith)), le-ltb (suc (suc x)) 2 (omega arith))
 
 -- the last mark of a trail may become 1, and cut
-may-one-is : (first : Bool) (x : ℕ) (τ : List ℕ) → length τ < 240 → mayOne first (trailOf (x ∷ τ)) ≡ eqb x 0 and oneAllowed first τ
+may-one-is : (first : Bool) (x : ℕ) (τ : List ℕ) → length τ < markRoom → mayOne first (trailOf (x ∷ τ)) ≡ eqb x 0 and oneAllowed first τ
 unfolding mayOne
 may-one-is first x τ b = and-eq (ap (λ (y : ℕ). eqb y 0) (last-is x 2 τ b)) (may-is first x τ b)
 
-may-cut-is : (x : ℕ) (τ : List ℕ) → length τ < 240 → mayCut (trailOf (x ∷ τ)) ≡ ltb x 2
+may-cut-is : (x : ℕ) (τ : List ℕ) → length τ < markRoom → mayCut (trailOf (x ∷ τ)) ≡ ltb x 2
 unfolding mayCut
 may-cut-is x τ b = ap (λ (y : ℕ). ltb y 2) (last-is x 2 τ b)
 
@@ -52,7 +52,7 @@ may-cut-none = le-ltb (lastMark (trailOf []) 2) 2 (omega (arith, last-none 2))
 -- a marking or none, for a trail that holds it
 abbrev pub PutIf : Rules → Trail → Bool → ℕ → ℕ → Type 0
 PutIf R t allowed least r =
-    (τ : List ℕ) → length τ ≤ 240 → t ≡ trailOf τ → r ≡ leastBound R least (pick allowed (τ ∷ []) [])
+    (τ : List ℕ) → length τ ≤ markRoom → t ≡ trailOf τ → r ≡ leastBound R least (pick allowed (τ ∷ []) [])
 
 module _ (R : Rules) (first : Bool) where
   -- nothing is put later of an empty trail
@@ -66,7 +66,7 @@ module _ (R : Rules) (first : Bool) where
 
   -- another last mark, where it is allowed
   put-one :
-      (t put : Trail) (x y : ℕ) (τ : List ℕ) (allowed test : Bool) (least r : ℕ) → length τ < 240 → t ≡ trailOf (x ∷ τ) →
+      (t put : Trail) (x y : ℕ) (τ : List ℕ) (allowed test : Bool) (least r : ℕ) → length τ < markRoom → t ≡ trailOf (x ∷ τ) →
       put ≡ replaced t y → allowed ≡ test → PutIf R put allowed least r →
       r ≡ leastBound R least (pick test ((y ∷ τ) ∷ []) [])
   put-one t put x y τ allowed test least r b held e same f =
@@ -77,14 +77,14 @@ module _ (R : Rules) (first : Bool) where
   pub later-is :
       (t one cut : Trail) (ones cuts : Bool) (least so r : ℕ) → ones ≡ mayOne first t → cuts ≡ mayCut t →
       one ≡ replaced t 1 → cut ≡ replaced t 2 → PutIf R one ones least so → PutIf R cut cuts so r →
-      (τ : List ℕ) → length τ ≤ 240 → t ≡ trailOf τ → r ≡ leastBound R least (putLater first τ)
+      (τ : List ℕ) → length τ ≤ markRoom → t ≡ trailOf τ → r ≡ leastBound R least (putLater first τ)
   unfolding putLater
   later-is t one cut ones cuts least so r e f d c g h [] short held =
       put-none t cut 2 cuts so r held c (f ∙ ap mayCut held ∙ may-cut-none) h
       ∙ put-none t one 1 ones least so held d (e ∙ ap (mayOne first) held ∙ may-one-none first) g
       ∙ sym (least-none R least)
   later-is t one cut ones cuts least so r e f d c g h (x ∷ τ) short held =
-      let b : length τ < 240 = omega arith in
+      let b : length τ < markRoom = omega arith in
       let ones-put = pick (eqb x 0 and oneAllowed first τ) ((1 ∷ τ) ∷ []) [] in
       let cuts-put = pick (ltb x 2) ((2 ∷ τ) ∷ []) [] in
       put-one t cut x 2 τ cuts (ltb x 2) so r b held c (f ∙ ap mayCut held ∙ may-cut-is x τ b) h
@@ -97,18 +97,18 @@ module _ (R : Rules) (first : Bool) where
 -- what is left while marks are dropped: the beginnings of the marking in the trail, put later, lead to the same least bound
 pub record Left (R : Rules) (first : Bool) (goal : ℕ) (t : Trail) (least : ℕ) : Type 0 where
   pub marks : List ℕ
-  pub short : length marks ≤ 240
+  pub short : length marks ≤ markRoom
   pub held : t ≡ trailOf marks
   pub same : leastBound R least (beginningsLater first marks) ≡ goal
 
 -- what a trail's marking, put later, makes of a count
 abbrev pub LaterIs : Rules → Bool → Trail → ℕ → ℕ → Type 0
-LaterIs R first t least r = (τ : List ℕ) → length τ ≤ 240 → t ≡ trailOf τ → r ≡ leastBound R least (putLater first τ)
+LaterIs R first t least r = (τ : List ℕ) → length τ ≤ markRoom → t ≡ trailOf τ → r ≡ leastBound R least (putLater first τ)
 
 -- the last mark put later, and then dropped
 left-step :
     (R : Rules) (first : Bool) (goal : ℕ) (t : Trail) (least r : ℕ) → hasLast t ≡ true → LaterIs R first t least r →
-    (τ : List ℕ) → length τ ≤ 240 → t ≡ trailOf τ → leastBound R least (beginningsLater first τ) ≡ goal → Left R first goal (dropped t) r
+    (τ : List ℕ) → length τ ≤ markRoom → t ≡ trailOf τ → leastBound R least (beginningsLater first τ) ≡ goal → Left R first goal (dropped t) r
 unfolding beginningsLater trailOf
 left-step R first goal t least r h f [] short held same =
     let w = topped t h in
@@ -132,7 +132,7 @@ left-again R first goal t next least r h e f l =
 -- with no last mark nothing is left
 left-none :
     (R : Rules) (first : Bool) (goal : ℕ) (t : Trail) (least : ℕ) → hasLast t ≡ false →
-    (τ : List ℕ) → length τ ≤ 240 → t ≡ trailOf τ → leastBound R least (beginningsLater first τ) ≡ goal → least ≡ goal
+    (τ : List ℕ) → length τ ≤ markRoom → t ≡ trailOf τ → leastBound R least (beginningsLater first τ) ≡ goal → least ≡ goal
 unfolding beginningsLater trailOf
 left-none R first goal t least h [] short held same = sym (least-none R least) ∙ same
 left-none R first goal t least h (x ∷ τ) short held same =

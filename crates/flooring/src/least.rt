@@ -2,12 +2,15 @@
 use bound::Evaluation;
 use bound::evaluating::evaluate;
 use model::Caps;
+use model::limits::LINE_ROOM;
+use model::limits::SIDE_ENDS;
 use pattern::cap::unequal_caps;
 use trail::Trail;
 ghost use mathlib.Core.List.{List, [], _∷_};
 ghost use mathlib.Core.Path.{_≡_};
 ghost use Prim.Native.Nat.{ℕ, _≤_};
 ghost use lib.ListN.{length};
+ghost use Rattle.trail.specs.Trail.{markRoom};
 ghost use Rattle.counting.specs.Tests.{pick};
 ghost use Rattle.model.specs.Pattern.{patternOf};
 ghost use Rattle.model.specs.Split.{unequal};
@@ -30,19 +33,19 @@ fn least_of(judged: Evaluation, least: u64) -> u64
 
 // The least of a count and the bound of a marking, if that is valid.
 fn least_with(
-    m: u8,
-    n: u8,
+    m: u16,
+    n: u16,
     nonzeros: u16,
     list: &[u8],
     caps: Caps,
-    places: &[u16; 512],
-    starts: &[u16; 257],
+    places: &[u16; LINE_ROOM],
+    starts: &[u16; SIDE_ENDS],
     trail: Trail,
     least: u64,
 ) -> u64
     ensures { λ r. ⌜ (Listed m n nonzeros (now (list .entry)) (now (starts .entry)) →
         Placed (patternOf m n nonzeros (now (list .entry))) (now (places .entry)) →
-        (τ : List ℕ) → length τ ≤ 240 → trail ≡ trailOf τ →
+        (τ : List ℕ) → length τ ≤ markRoom → trail ≡ trailOf τ →
         r ≡ leastBound (rulesOf (patternOf m n nonzeros (now (list .entry))) caps) least (τ ∷ [])) ⌝ }
 {
     let marks = trail.marks;
@@ -79,20 +82,20 @@ fn may_cut(trail: Trail) -> bool
 
 // The least of a count and the bound of a marking, if that is allowed and valid.
 fn least_if(
-    m: u8,
-    n: u8,
+    m: u16,
+    n: u16,
     nonzeros: u16,
     list: &[u8],
     caps: Caps,
-    places: &[u16; 512],
-    starts: &[u16; 257],
+    places: &[u16; LINE_ROOM],
+    starts: &[u16; SIDE_ENDS],
     trail: Trail,
     allowed: bool,
     least: u64,
 ) -> u64
     ensures { λ r. ⌜ (Listed m n nonzeros (now (list .entry)) (now (starts .entry)) →
         Placed (patternOf m n nonzeros (now (list .entry))) (now (places .entry)) →
-        (τ : List ℕ) → length τ ≤ 240 → trail ≡ trailOf τ →
+        (τ : List ℕ) → length τ ≤ markRoom → trail ≡ trailOf τ →
         r ≡ leastBound (rulesOf (patternOf m n nonzeros (now (list .entry))) caps) least (pick allowed (τ ∷ []) [])) ⌝ }
 {
     if allowed {
@@ -104,19 +107,19 @@ fn least_if(
 
 // The least of a count and the bounds of the valid ones of a marking with its last mark put later.
 fn least_later(
-    m: u8,
-    n: u8,
+    m: u16,
+    n: u16,
     nonzeros: u16,
     list: &[u8],
     caps: Caps,
-    places: &[u16; 512],
-    starts: &[u16; 257],
+    places: &[u16; LINE_ROOM],
+    starts: &[u16; SIDE_ENDS],
     trail: Trail,
     least: u64,
 ) -> u64
     ensures { λ r. ⌜ (Listed m n nonzeros (now (list .entry)) (now (starts .entry)) →
         Placed (patternOf m n nonzeros (now (list .entry))) (now (places .entry)) →
-        (τ : List ℕ) → length τ ≤ 240 → trail ≡ trailOf τ →
+        (τ : List ℕ) → length τ ≤ markRoom → trail ≡ trailOf τ →
         r ≡ leastBound (rulesOf (patternOf m n nonzeros (now (list .entry))) caps) least (putLater (unequal caps) τ)) ⌝ }
 {
     let ones = may_one(trail, unequal_caps(caps));
@@ -140,19 +143,19 @@ fn least_later(
 
 // The least of a count and the bounds of the valid ones of a trail and of each beginning of it with its last mark put later.
 pub fn least_open(
-    m: u8,
-    n: u8,
+    m: u16,
+    n: u16,
     nonzeros: u16,
     list: &[u8],
     caps: Caps,
-    places: &[u16; 512],
-    starts: &[u16; 257],
+    places: &[u16; LINE_ROOM],
+    starts: &[u16; SIDE_ENDS],
     trail: Trail,
     least: u64,
 ) -> u64
     ensures { λ r. ⌜ (Listed m n nonzeros (now (list .entry)) (now (starts .entry)) →
         Placed (patternOf m n nonzeros (now (list .entry))) (now (places .entry)) →
-        (τ : List ℕ) → length τ ≤ 240 → trail ≡ trailOf τ →
+        (τ : List ℕ) → length τ ≤ markRoom → trail ≡ trailOf τ →
         r ≡ leastBound (rulesOf (patternOf m n nonzeros (now (list .entry))) caps) least (τ ∷ beginningsLater (unequal caps) τ)) ⌝ }
 {
     let mut s = trail;

@@ -11,7 +11,7 @@ use lib.ListN.{length}
 use Rattle.counting.specs.Tests.{_or_}
 use Rattle.counting.proofs.Joined.{never}
 use Rattle.model.specs.declared.Word.{Word}
-use Rattle.model.specs.declared.Word.the-variants.{TooBig, OffMatrix, ShortBuffer, Order, Cap, NoSplit, Budget, State}
+use Rattle.model.specs.declared.Word.the-variants.{TooBig, OffMatrix, ShortBuffer, Order, Cap, NoSplit, Budget, State, SplitNumber}
 use Rattle.model.specs.declared.Verdict.{Verdict}
 use Rattle.model.specs.declared.Verdict.the-variants.{Accepted, Refused}
 use Rattle.model.specs.declared.Caps.{Caps}
@@ -19,11 +19,11 @@ use Rattle.model.specs.declared.Search.{Search}
 use Rattle.model.specs.declared.ShowAnswer.the-variants as show-answer
 use Rattle.model.specs.Limits.{nonzeroLimit, budgetLimit}
 use Rattle.model.specs.Refusal.{refuse, _then_, eachVerdict}
-use Rattle.model.specs.Pattern.{entryBytes, rowIn, columnIn, patternOf}
+use Rattle.model.specs.Pattern.{entryBytes, patternOf}
 use Rattle.model.specs.Split.{capsOutside}
 use Rattle.model.specs.Walk.{Record, rulesOf}
 use Rattle.model.specs.State.{recordOf, stateFine}
-use Rattle.model.specs.Calls.{sizesVerdict, rises, entryVerdict, entriesVerdict, listVerdict, openVerdict, showVerdict, shown, shownAfter, showCall}
+use Rattle.model.specs.Calls.{sizesVerdict, rises, splitNumber, offMatrix, entryVerdict, entriesVerdict, listVerdict, openVerdict, showVerdict, shown, shownAfter, showCall}
 use Rattle.model.proofs.Theorems.Checks.{then-first, nonzeros-small}
 use Rattle.gulzoreno.specs.Figures.{figuresBytes}
 use Rattle.gulzoreno.specs.Host.{outputVerdict, hostVerdict}
@@ -54,9 +54,14 @@ module _ (m n : ℕ) (list : List ℕ) where
   entry-to t =
       then-to
       t
-      (refuse (leb m (rowIn list t) or leb n (columnIn list t)) OffMatrix t)
+      (refuse (splitNumber list t) SplitNumber t then refuse (offMatrix m n list t) OffMatrix t)
       (refuse (not (rises list t)) Order t)
-      (refuse-to t (leb m (rowIn list t) or leb n (columnIn list t)) OffMatrix t (omega arith))
+      (then-to
+      t
+      (refuse (splitNumber list t) SplitNumber t)
+      (refuse (offMatrix m n list t) OffMatrix t)
+      (refuse-to t (splitNumber list t) SplitNumber t (omega arith))
+      (λ e. refuse-to t (offMatrix m n list t) OffMatrix t (omega arith)))
       (λ e. refuse-to t (not (rises list t)) Order t (omega arith))
 
   entries-to : (size limit : ℕ) → size ≤ limit → PlaceTo limit (entriesVerdict m n list size)

@@ -4,6 +4,7 @@ use model::Search;
 use model::ShowAnswer;
 use model::Verdict;
 use model::Word;
+use model::limits::BUDGET_LIMIT;
 use pattern::checks::and_then;
 use pattern::refusals::refusal_number;
 ghost use mathlib.Core.Path.{_≡_};
@@ -28,7 +29,7 @@ fn refusal_code(word: Word, place: u64) -> u64
 fn output_verdict(nonzeros: u64, budget: u64, parts: &[u8], figures: &[u8]) -> Verdict
     ensures { λ r. ⌜ r ≡ outputVerdict nonzeros budget (now (parts .entry)) (now (figures .entry)) ⌝ }
 {
-    if 1_000_000 < budget {
+    if BUDGET_LIMIT < budget {
         return Verdict::Refused(Word::Budget, 0);
     }
     if (parts.len() as u64) < nonzeros {

@@ -1,10 +1,13 @@
 // Volume and loads of splits, and the refusals of both calls.
 use model::Part;
+use model::limits::LIST_ROOM;
+use model::limits::PART_ROOM;
 use pattern::Measured;
 use pattern::measures::load;
 use pattern::measures::volume;
 use testing::Kind;
 use testing::cases::field_at;
+use testing::cases::list_at;
 use testing::cases::number_at;
 use testing::laying::first;
 use testing::saying::say;
@@ -33,12 +36,12 @@ fn measure(m: u64, n: u64, nonzeros: u64, list: &[u8], parts: &[u8]) {
 
 // The measures of a split that a case gives, and the place of the next case.
 pub(crate) fn measure_case(cases: &[u8], at: usize) -> usize {
-    let mut list = [0u8; 16];
-    let mut parts = [0u8; 16];
+    let mut list = [0u8; LIST_ROOM];
+    let mut parts = [0u8; PART_ROOM];
     let m = number_at(cases, say_field(cases, at));
     let n = number_at(cases, m.next);
     let nonzeros = number_at(cases, n.next);
-    let listed = field_at(cases, nonzeros.next, Kind::Numbers, &mut list);
+    let listed = list_at(cases, nonzeros.next, &mut list);
     let parted = field_at(cases, listed.next, Kind::Numbers, &mut parts);
     measure(
         m.value,

@@ -4,9 +4,9 @@ use crate::lending::lend;
 use model::Ran;
 use model::RunAnswer;
 use model::Search;
+use model::limits::LIST_ROOM;
 use pattern::refusals::refusal_number;
-use testing::Kind;
-use testing::cases::field_at;
+use testing::cases::list_at;
 use testing::cases::number_at;
 use testing::comparing::same_search;
 use testing::laying::first;
@@ -15,6 +15,7 @@ use testing::saying::say_field;
 use testing::saying::say_number;
 use testing::saying::say_run;
 use testing::saying::say_which;
+use trail::MARK_ROOM;
 
 // A number for each kind of answer.
 fn number_of(answer: RunAnswer) -> u64 {
@@ -76,11 +77,11 @@ fn step(search: Search, m: u64, n: u64, nonzeros: u64, list: &[u8], budget: u64)
 
 // The step that a case gives.
 pub(crate) fn step_case(cases: &[u8], at: usize, search: Search) -> Turn {
-    let mut list = [0u8; 16];
+    let mut list = [0u8; LIST_ROOM];
     let m = number_at(cases, say_field(cases, at));
     let n = number_at(cases, m.next);
     let nonzeros = number_at(cases, n.next);
-    let listed = field_at(cases, nonzeros.next, Kind::Numbers, &mut list);
+    let listed = list_at(cases, nonzeros.next, &mut list);
     let budget = number_at(cases, listed.next);
     let search = step(
         search,
@@ -97,8 +98,8 @@ pub(crate) fn step_case(cases: &[u8], at: usize, search: Search) -> Turn {
 }
 
 // The list of the 3 by 2 pattern that is searched.
-fn listed() -> [u8; 8] {
-    [0, 0, 0, 1, 1, 0, 2, 1]
+fn listed() -> [u8; 16] {
+    [0, 0, 0, 0, 0, 0, 1, 0, 1, 0, 0, 0, 2, 0, 1, 0]
 }
 
 // A fresh search of the pattern.
@@ -123,7 +124,7 @@ fn states(search: Search) {
     s.tries = 9_999_999_999_997;
     go(b"tries near the limit", s, 3);
     let mut long = search.trail;
-    long.len = 241;
+    long.len = MARK_ROOM + 1;
     let mut s = search;
     s.trail = long;
     go(b"trail longer than its bytes", s, 3);
@@ -137,7 +138,7 @@ fn states(search: Search) {
 // Marks past a trail's length, which an accepted run clears.
 fn bytes_past(search: Search) {
     let mut trail = search.trail;
-    trail.marks[100] = 3;
+    trail.marks[MARK_ROOM - 1] = 3;
     let mut s = search;
     s.trail = trail;
     go(b"a mark past the length, refused", s, 1_000_001);

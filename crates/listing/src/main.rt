@@ -2,6 +2,8 @@
 // this program. The input is a line with a number of seven digits, and the text.
 use libc::STDIN_FILENO;
 use libc::STDOUT_FILENO;
+use model::limits::LIST_ROOM;
+use model::limits::PART_ROOM;
 use testing::cases::number_at;
 use testing::laying::first;
 use texts::ReadAnswer;
@@ -47,9 +49,9 @@ fn write_often(
 
 // A text read, written so often, and printed.
 fn print_written(times: u64, text: &[u8]) {
-    let mut list = [0u8; 4000];
-    let mut parts = [0u8; 2000];
-    let mut out = [0u8; 32768];
+    let mut list = [0u8; LIST_ROOM];
+    let mut parts = [0u8; PART_ROOM];
+    let mut out = [0u8; 65536];
     let answer = read(text, &mut list, &mut parts);
     match answer {
         ReadAnswer::Read {
@@ -68,7 +70,7 @@ fn print_written(times: u64, text: &[u8]) {
 // Reads the number and the text.
 fn main() {
     let mut line = [0u8; 8];
-    let mut text = [0u8; 32768];
+    let mut text = [0u8; 65536];
     io::read_full(STDIN_FILENO, &mut line);
     let len = io::read_full(STDIN_FILENO, &mut text);
     let times = number_at(&line, 0);

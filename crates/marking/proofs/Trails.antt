@@ -13,7 +13,7 @@ use borrow.Author.Tests.{lt-ltb, le-ltb, ne-eqb}
 use Rattle.counting.specs.Tests.{_or_, pick}
 use Rattle.counting.proofs.Joined.{no-way, or-eq, or-fails, pick-true}
 use Rattle.trail.specs.declared.Trail.{Trail}
-use Rattle.trail.specs.Trail.{topOf, trailWith, withMark, appended, dropped, markOr, lastMark, replaced, replacedAt, isPart, givesPartIn, oneAt, mayBeOne, uncut, nextMark, lastAdvanced, advanced}
+use Rattle.trail.specs.Trail.{markRoom, topOf, trailWith, withMark, appended, dropped, markOr, lastMark, replaced, replacedAt, isPart, givesPartIn, oneAt, mayBeOne, uncut, nextMark, lastAdvanced, advanced}
 use Rattle.trail.proofs.Methods.{top-suc, at-top, at-none, dropped-at, uncut-more, uncut-done}
 use Rattle.model.specs.Walk.{givesPart, oneAllowed, afterZero, advance}
 use Rattle.model.specs.State.{stack, marksIn, arrayOf, trailOf}
@@ -21,21 +21,21 @@ use Rattle.model.proofs.State.Arrays.{array-last, array-before, array-again, ar
 use Rattle.model.proofs.Order.Mirrored.{stack-eq}
 
 -- one mark more
-pub appended-is : (x : ℕ) (τ : List ℕ) → length τ < 240 → appended (trailOf τ) x ≡ trailOf (x ∷ τ)
+pub appended-is : (x : ℕ) (τ : List ℕ) → length τ < markRoom → appended (trailOf τ) x ≡ trailOf (x ∷ τ)
 unfolding appended trailOf arrayOf
 appended-is x τ b =
-    pick-true (withMark (trailOf τ) (length τ) x (length τ + 1)) (trailOf τ) (lt-ltb (length τ) 240 b)
+    pick-true (withMark (trailOf τ) (length τ) x (length τ + 1)) (trailOf τ) (lt-ltb (length τ) markRoom b)
     ∙ ap (withMark (trailOf τ) (length τ) x) (add-one (length τ))
 
 -- without the last mark
-pub dropped-is : (x : ℕ) (τ : List ℕ) → length τ < 240 → dropped (trailOf (x ∷ τ)) ≡ trailOf τ
+pub dropped-is : (x : ℕ) (τ : List ℕ) → length τ < markRoom → dropped (trailOf (x ∷ τ)) ≡ trailOf τ
 unfolding trailOf
 dropped-is x τ b =
     dropped-at (trailOf (x ∷ τ)) (length τ) refl b
     ∙ ap (λ (a : List ℕ). trailWith a (length τ)) (array-dropped x τ)
 
 -- the last mark, or none
-pub last-is : (x none : ℕ) (τ : List ℕ) → length τ < 240 → lastMark (trailOf (x ∷ τ)) none ≡ x
+pub last-is : (x none : ℕ) (τ : List ℕ) → length τ < markRoom → lastMark (trailOf (x ∷ τ)) none ≡ x
 unfolding lastMark markOr trailOf
 last-is x none τ b =
     at-top (λ (at : ℕ). getD (arrayOf (x ∷ τ)) at 0) none (suc (length τ)) (length τ) refl b ∙ array-last x τ b
@@ -45,7 +45,7 @@ unfolding lastMark markOr trailOf
 last-none none = at-none (getD (arrayOf []) (topOf 0) 0) none
 
 -- another last mark
-pub replaced-is : (x y : ℕ) (τ : List ℕ) → length τ < 240 → replaced (trailOf (x ∷ τ)) y ≡ trailOf (y ∷ τ)
+pub replaced-is : (x y : ℕ) (τ : List ℕ) → length τ < markRoom → replaced (trailOf (x ∷ τ)) y ≡ trailOf (y ∷ τ)
 unfolding replaced replacedAt trailOf
 replaced-is x y τ b =
     at-top (λ (at : ℕ). withMark (trailOf (x ∷ τ)) at y (suc (length τ))) (trailOf (x ∷ τ)) (suc (length τ)) (length τ) refl b
@@ -56,17 +56,17 @@ unfolding replaced replacedAt trailOf
 replaced-none y = at-none (withMark (trailOf []) (topOf 0) y 0) (trailOf [])
 
 -- the marks before an index that the array has, as a marking
-pub marks-before : (marks : List ℕ) (d : ℕ) → d ≤ 240 → stack (markOr 0 marks) d ≡ stack (λ i. getD marks i 0) d
+pub marks-before : (marks : List ℕ) (d : ℕ) → d ≤ markRoom → stack (markOr 0 marks) d ≡ stack (λ i. getD marks i 0) d
 unfolding markOr
 marks-before marks d b =
     stack-eq
     (markOr 0 marks)
     (λ i. getD marks i 0)
     d
-    (λ i c. pick-true (getD marks i 0) 0 (lt-ltb i 240 (omega arith)))
+    (λ i c. pick-true (getD marks i 0) 0 (lt-ltb i markRoom (omega arith)))
 
 -- the marking of a trail, and of that without its last mark
-pub marks-dropped : (t : Trail) (d : ℕ) → t .len ≡ suc d → d < 240 → marksIn t ≡ getD (t .marks) d 0 ∷ marksIn (dropped t)
+pub marks-dropped : (t : Trail) (d : ℕ) → t .len ≡ suc d → d < markRoom → marksIn t ≡ getD (t .marks) d 0 ∷ marksIn (dropped t)
 unfolding marksIn stack
 marks-dropped t d e b =
     ap (stack (λ i. getD (t .marks) i 0)) e
@@ -101,7 +101,7 @@ unfolding oneAt oneAllowed
 one-at-is first marks d = ap (λ (part : Bool). first or part) (gives-is marks d)
 
 -- mark 1 is allowed as the last mark
-pub may-is : (first : Bool) (x : ℕ) (τ : List ℕ) → length τ < 240 → mayBeOne first (trailOf (x ∷ τ)) ≡ oneAllowed first τ
+pub may-is : (first : Bool) (x : ℕ) (τ : List ℕ) → length τ < markRoom → mayBeOne first (trailOf (x ∷ τ)) ≡ oneAllowed first τ
 unfolding mayBeOne trailOf
 may-is first x τ b =
     ap (oneAt first (arrayOf (x ∷ τ))) (top-suc (length τ))
@@ -125,7 +125,7 @@ next-cut b = refl
 module _ (first : Bool) where
   -- the last mark, where it is not cut, becomes the next
   last-advanced-is :
-      (x : ℕ) (τ : List ℕ) → length τ < 240 →
+      (x : ℕ) (τ : List ℕ) → length τ < markRoom →
       lastAdvanced first (trailOf (x ∷ τ)) ≡ trailOf (nextMark x (oneAllowed first τ) ∷ τ)
   unfolding lastAdvanced
   last-advanced-is x τ b =
@@ -137,7 +137,7 @@ module _ (first : Bool) where
 
   -- a trail whose last mark is not cut has that advanced
   advanced-last :
-      (x : ℕ) (τ : List ℕ) → length τ < 240 → x ≤ 1 → advanced first (trailOf (x ∷ τ)) ≡ trailOf (nextMark x (oneAllowed first τ) ∷ τ)
+      (x : ℕ) (τ : List ℕ) → length τ < markRoom → x ≤ 1 → advanced first (trailOf (x ∷ τ)) ≡ trailOf (nextMark x (oneAllowed first τ) ∷ τ)
   unfolding advanced
   advanced-last x τ b h =
       ap (lastAdvanced first) (uncut-done (trailOf (x ∷ τ) .len) (trailOf (x ∷ τ)) (omega (arith, last-is x 0 τ b)))
@@ -145,7 +145,7 @@ module _ (first : Bool) where
 
   -- a mark cut at the end goes
   advanced-dropped :
-      (x : ℕ) (τ : List ℕ) → length τ < 240 → advanced first (trailOf (suc (suc x) ∷ τ)) ≡ advanced first (trailOf τ)
+      (x : ℕ) (τ : List ℕ) → length τ < markRoom → advanced first (trailOf (suc (suc x) ∷ τ)) ≡ advanced first (trailOf τ)
   unfolding advanced
   advanced-dropped x τ b =
       ap (lastAdvanced first) (uncut-more (trailOf (suc (suc x) ∷ τ)) (omega (arith, last-is (suc (suc x)) 0 τ b)))
@@ -159,7 +159,7 @@ module _ (first : Bool) where
       ∙ replaced-none (nextMark (lastMark (trailOf []) 0) (mayBeOne first (trailOf [])))
 
   -- advance
-  pub advanced-is : (τ : List ℕ) → length τ ≤ 240 → advanced first (trailOf τ) ≡ trailOf (advance first τ)
+  pub advanced-is : (τ : List ℕ) → length τ ≤ markRoom → advanced first (trailOf τ) ≡ trailOf (advance first τ)
   unfolding advance afterZero
   advanced-is [] b = advanced-none
   advanced-is (zero ∷ τ) b =

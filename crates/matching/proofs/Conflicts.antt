@@ -7,8 +7,8 @@ use Prim.Native.Nat.{ℕ, _+_, _-_, _≤_, _<_}
 use native.Mathlib.Omega.{arith}
 use lib.Dec.{eqb, ltb}
 use lib.ListN.{getD}
-use borrow.Author.Tests.{eq-eqb, ne-eqb, ltb-true, ltb-false}
-use Rattle.counting.proofs.Joined.{no-way, by-test, and-all, and-fails-right, pick-true, pick-false}
+use borrow.Author.Tests.{eq-eqb, ne-eqb, ltb-true, ltb-false, lt-ltb}
+use Rattle.counting.proofs.Joined.{no-way, by-test, and-all, and-passed, and-fails-right}
 use Rattle.model.specs.declared.Part.the-variants.{Zero, One}
 use Rattle.model.specs.Pattern.{Pattern, Inside, patternOf, lines, rowLine, columnLine, columnIn}
 use Rattle.model.specs.Marking.{Marking}
@@ -19,6 +19,7 @@ use Rattle.model.proofs.Matching.Searched.{starts-depth}
 use Rattle.matching.specs.Augmenting.{ground, different, atOdds, columnsFrom, columnsIn, searched, sideRoom}
 use Rattle.matching.specs.Starts.{rowStart}
 use Rattle.matching.proofs.Rows.Counts.{start-most}
+use Rattle.matching.proofs.Visits.Row.{row-begins, row-outside}
 use Rattle.matching.proofs.Rows.Sorted.{Sorted, Rising, sorted-rising, start-mono, between-below, between-row}
 
 -- the list's pattern, whose rows rise, its rows' starts, and what each line leans to
@@ -48,7 +49,10 @@ module _ (m n nonzeros : ℕ) (list lean starts : List ℕ) (μ : Marking) (a : 
   odds-conflict t b =
       let row : P .row t < m + n = omega (arith, a .inside .row-in t b) in
       let column : m + P .column t < m + n = omega (arith, a .inside .column-in t b) in
-      rw (a .zero-are (P .row t) row, a .one-are (P .row t) row, a .zero-are (m + P .column t) column, a .one-are (m + P .column t) column) refl
+      and-passed
+      _
+      (lt-ltb (columnIn list t) sideRoom (omega (arith, a .inside .column-in t b, a .few-columns)))
+      ∙ rw (a .zero-are (P .row t) row, a .one-are (P .row t) row, a .zero-are (m + P .column t) column, a .one-are (m + P .column t) column) refl
 
   -- a nonzero before the start of row i, or from that of the next row on, is no conflict of row i
   before-none : (i t : ℕ) → t < nonzeros → t < rowStart P i → conflictOf P μ i t ≡ false
@@ -129,20 +133,21 @@ module _ (m n nonzeros : ℕ) (list lean starts : List ℕ) (μ : Marking) (a : 
 
   -- the columns of each row, by the arrays
   columns-are : (i : ℕ) → columnsIn (ground lean m list starts) i ≡ conflictColumns P μ i
-  unfolding columnsIn
   columns-are i =
+      let G = ground lean m list starts in
       by-test
       (ltb i sideRoom)
       (λ e. let b = ltb-true i sideRoom e in
-      pick-true _ _ e
-      ∙ ap
-      (λ (x : ℕ). columnsFrom (ground lean m list starts) i (getD starts (i + 1) 0 - x) x)
-      (a .starts-are i (omega arith))
-      ∙ ap
-      (λ (x : ℕ). columnsFrom (ground lean m list starts) i (x - rowStart P i) (rowStart P i))
-      (a .starts-are (i + 1) (omega arith))
+      row-begins
+      G
+      i
+      (rowStart P i)
+      (rowStart P (i + 1))
+      b
+      (sym (a .starts-are i (omega arith)))
+      (sym (a .starts-are (i + 1) (omega arith)))
       ∙ sym (own-columns i))
-      (λ e. pick-false _ _ e ∙ sym (outside-none i (omega (arith, ltb-false i sideRoom e, a .few-rows))))
+      (λ e. row-outside G i e ∙ sym (outside-none i (omega (arith, ltb-false i sideRoom e, a .few-rows))))
 
   -- the search over the arrays is the search of the pattern and the marking
   pub searched-is : searched (ground lean m list starts) ≡ matchingSearch P μ

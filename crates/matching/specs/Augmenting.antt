@@ -9,6 +9,7 @@ use lib.ListN.{length, getD, replicate}
 use Rattle.counting.specs.Tests.{_and_, _or_, pick, bit}
 use Rattle.model.specs.Pattern.{columnIn}
 use Rattle.model.specs.Matching.{Visited, visited, looked, columnsWhere, through, columnWithin, startFrom, Tally, startsFrom}
+pub use Rattle.matching.specs.Starts.{sideRoom}
 use Rattle.matching.specs.declared.augmenting.Visit.{Visit}
 use Rattle.matching.specs.declared.augmenting.Matching.{Matching}
 
@@ -23,24 +24,20 @@ pub record Ground : Type 0 where
 abbrev pub ground : List ℕ → ℕ → List ℕ → List ℕ → Ground
 ground lean m list starts = record { lean = lean; m = m; list = list; starts = starts }
 
--- rows and columns that the arrays have room for: rows and columns are bytes
-abbrev pub sideRoom : ℕ
-sideRoom = 256
-
 -- one leans to part 0 and the other to part 1
 unfoldable pub different : ℕ → ℕ → Bool
 different a b = (eqb a 0 and eqb b 1) or (eqb a 1 and eqb b 0)
 
--- row i and column j lean to different parts
+-- row i and column j lean to different parts; a column past the last that the arrays have room for is at odds with none
 unfoldable pub atOdds : List ℕ → ℕ → ℕ → ℕ → Bool
-atOdds lean m i j = different (getD lean i 0) (getD lean (m + j) 0)
+atOdds lean m i j = ltb j sideRoom and different (getD lean i 0) (getD lean (m + j) 0)
 
 -- a row's columns at odds with it, among n of its nonzeros from nonzero t on
 unfoldable pub columnsFrom : Ground → ℕ → ℕ → ℕ → List ℕ
 columnsFrom G i n t =
     columnsWhere (λ s. atOdds (G .lean) (G .m) i (columnIn (G .list) s)) (columnIn (G .list)) n t
 
--- all of its columns at odds with it; rows are bytes
+-- all of its columns at odds with it; a row past the last that the arrays have room for has none
 unfoldable pub columnsIn : Ground → ℕ → List ℕ
 columnsIn G i =
     pick
@@ -52,7 +49,7 @@ columnsIn G i =
 unfoldable pub enteredIn : List ℕ → ℕ → Bool
 enteredIn seen j = ltb 0 (getD seen j 0)
 
--- the mate that a number of an array stands for: 0, or row + 1; rows are bytes
+-- the mate that a number of an array stands for: 0, or row + 1, of a row that the arrays have room for
 unfoldable pub mateOf : ℕ → ℕ
 mateOf zero = 0
 mateOf (suc x) = suc (x % sideRoom)

@@ -5,7 +5,16 @@ use Prim.Native.Nat.{ℕ, _+_}
 use lib.Dec.{eqb, ltb}
 use lib.ListN.{replicate}
 use Rattle.counting.specs.Sums.{count}
+use Rattle.model.specs.Limits.{lineLimit}
 use Rattle.model.specs.Pattern.{Pattern, rowIn}
+
+-- rows, or columns, that the arrays have room for
+abbrev pub sideRoom : ℕ
+sideRoom = lineLimit
+
+-- a number for each row, and one more
+abbrev pub sideEnds : ℕ
+sideEnds = sideRoom + 1
 
 -- the number of nonzeros in rows before row i: where the rows are sorted, those of row i are numbered from rowStart P i to rowStart P (i + 1) - 1
 unfoldable pub rowStart : Pattern → ℕ → ℕ
@@ -17,4 +26,4 @@ rowCount list nonzeros i = count (λ t. eqb (rowIn list t + 1) i) nonzeros
 
 -- 0 for each row, and one more
 unfoldable pub noStarts : List ℕ
-noStarts = replicate 257 0
+noStarts = replicate sideEnds 0

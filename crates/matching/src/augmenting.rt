@@ -1,12 +1,17 @@
 // The search for augmenting paths, from a row to a column and from the column back to its matched row, with its looks.
-// Any values are taken; the two visits only ask that the arrays of columns entered and of mates have their length.
+// Any values are taken; the two visits only ask for a row and a column within the arrays of columns entered and of mates, and for their length.
 use counting::joining::bit_of;
+use model::limits::LINE_ROOM;
+use model::limits::SIDE_ENDS;
+use model::limits::SIDE_ROOM;
+use pattern::reading::byte_at;
 use pattern::reading::column_of;
 use pattern::reading::long16;
-use pattern::reading::wide;
+use pattern::reading::wide16;
+use pattern::reading::word_at;
 ghost use mathlib.Core.Path.{_≡_};
 ghost use mathlib.Core.Bool.{not};
-ghost use Prim.Native.Nat.{_+_};
+ghost use Prim.Native.Nat.{_+_, _≤_, _<_};
 ghost use lib.ListN.{length, getD};
 ghost use Rattle.model.specs.Walk.{isEmpty};
 ghost use Rattle.matching.specs.Augmenting.{ground, sideRoom, different, atOdds, columnsIn, RowVisits, ColumnVisits, noColumns, Starts, matchingIn};
@@ -34,42 +39,43 @@ fn differ(a: u8, b: u8) -> bool
     }
 }
 
-// Row i and column j lean to different parts.
-fn at_odds(lean: &[u8; 512], m: u8, i: u8, j: u8) -> bool
+// Row i and column j lean to different parts; a column past the last is passed over.
+fn at_odds(lean: &[u8; LINE_ROOM], m: u16, i: u16, j: u16) -> bool
     ensures { λ r. ⌜ r ≡ atOdds (now (lean .entry)) m i j ⌝ }
 {
-    let row = wide(i);
-    let column = wide(m) + wide(j);
-    differ(lean[row], lean[column])
+    if wide16(j) < SIDE_ROOM {
+        let row = byte_at(lean, wide16(i));
+        let column = byte_at(lean, wide16(m) + wide16(j));
+        return differ(row, column);
+    }
+    false
 }
 
 // The number of the first nonzero of row i.
-fn first_of(starts: &[u16; 257], i: u8) -> u16
+fn first_of(starts: &[u16; SIDE_ENDS], i: u16) -> u16
     ensures { λ r. ⌜ r ≡ getD (now (starts .entry)) i 0 ⌝ }
 {
-    let row = wide(i);
-    starts[row]
+    word_at(starts, wide16(i))
 }
 
-// The number after that of its last nonzero.
-fn end_of(starts: &[u16; 257], i: u8) -> u16
-    ensures { λ r. ⌜ r ≡ getD (now (starts .entry)) (i + 1) 0 ⌝ }
+// The number after that of its last nonzero; 0 for a row past the last.
+fn end_of(starts: &[u16; SIDE_ENDS], i: u16) -> u16
+    ensures { λ r. ⌜ (r ≡ getD (now (starts .entry)) (i + 1) 0) × (sideRoom ≤ i → r ≡ 0) ⌝ }
 {
-    let row = wide(i);
-    starts[row + 1]
+    word_at(starts, wide16(i) + 1)
 }
 
 // Row i goes through its nonzeros, and visits each column that it is at odds with, until one is found for it.
 fn row_visit(
-    lean: &[u8; 512],
-    m: u8,
+    lean: &[u8; LINE_ROOM],
+    m: u16,
     list: &[u8],
-    starts: &[u16; 257],
-    i: u8,
-    seen: &mut [u8; 256],
-    mate: &mut [u16; 256],
+    starts: &[u16; SIDE_ENDS],
+    i: u16,
+    seen: &mut [u8; SIDE_ROOM],
+    mate: &mut [u16; SIDE_ROOM],
 ) -> Visit
-    requires { ⌜ (length (now seen) ≡ sideRoom) × (length (now mate) ≡ sideRoom) ⌝ }
+    requires { ⌜ (i < sideRoom) × (length (now seen) ≡ sideRoom) × (length (now mate) ≡ sideRoom) ⌝ }
     ensures { λ r. ⌜ RowVisits (ground (now (lean .entry)) m (now (list .entry)) (now (starts .entry))) i (now (seen .entry)) (now (mate .entry)) r (now (seen .exit)) (now (mate .exit)) ⌝ }
 {
     let mut t = first_of(starts, i);
@@ -94,19 +100,19 @@ fn row_visit(
 
 // The conflict of row i and column j is met, which is a look. The column gets row i if it is free, or if its own row finds another column.
 fn column_visit(
-    lean: &[u8; 512],
-    m: u8,
+    lean: &[u8; LINE_ROOM],
+    m: u16,
     list: &[u8],
-    starts: &[u16; 257],
-    j: u8,
-    i: u8,
-    seen: &mut [u8; 256],
-    mate: &mut [u16; 256],
+    starts: &[u16; SIDE_ENDS],
+    j: u16,
+    i: u16,
+    seen: &mut [u8; SIDE_ROOM],
+    mate: &mut [u16; SIDE_ROOM],
 ) -> Visit
-    requires { ⌜ (length (now seen) ≡ sideRoom) × (length (now mate) ≡ sideRoom) ⌝ }
+    requires { ⌜ (j < sideRoom) × (i < sideRoom) × (length (now seen) ≡ sideRoom) × (length (now mate) ≡ sideRoom) ⌝ }
     ensures { λ r. ⌜ ColumnVisits (ground (now (lean .entry)) m (now (list .entry)) (now (starts .entry))) j i (now (seen .entry)) (now (mate .entry)) r (now (seen .exit)) (now (mate .exit)) ⌝ }
 {
-    let column = wide(j);
+    let column = wide16(j);
     if seen[column] != 0 {
         return Visit {
             found: false,
@@ -116,17 +122,17 @@ fn column_visit(
     seen[column] = 1;
     let held = mate[column];
     if held == 0 {
-        mate[column] = (i as u16) + 1;
+        mate[column] = i + 1;
         return Visit {
             found: true,
             looks: 1,
         };
     }
-    let r = ((held - 1) % 256) as u8;
+    let r = (held - 1) % (SIDE_ROOM as u16);
     let visit = row_visit(lean, m, list, starts, r, seen, mate);
     let looks = visit.looks + 1;
     if visit.found {
-        mate[column] = (i as u16) + 1;
+        mate[column] = i + 1;
         return Visit { found: true, looks };
     }
     Visit {
@@ -136,11 +142,16 @@ fn column_visit(
 }
 
 // Row i has a conflict. One that leans to no part has none.
-fn has_conflict(lean: &[u8; 512], m: u8, list: &[u8], starts: &[u16; 257], i: u8) -> bool
+fn has_conflict(
+    lean: &[u8; LINE_ROOM],
+    m: u16,
+    list: &[u8],
+    starts: &[u16; SIDE_ENDS],
+    i: u16,
+) -> bool
     ensures { λ r. ⌜ r ≡ not (isEmpty (columnsIn (ground (now (lean .entry)) m (now (list .entry)) (now (starts .entry))) i)) ⌝ }
 {
-    let row = wide(i);
-    if lean[row] > 1 {
+    if byte_at(lean, wide16(i)) > 1 {
         return false;
     }
     let mut t = first_of(starts, i);
@@ -155,27 +166,27 @@ fn has_conflict(lean: &[u8; 512], m: u8, list: &[u8], starts: &[u16; 257], i: u8
 }
 
 // No column entered.
-fn no_columns() -> [u8; 256]
+fn no_columns() -> [u8; SIDE_ROOM]
     ensures { λ r. ⌜ r ≡ noColumns ⌝ }
 {
-    [0u8; 256]
+    [0u8; SIDE_ROOM]
 }
 
 // Every column free.
-fn no_mates() -> [u16; 256]
+fn no_mates() -> [u16; SIDE_ROOM]
     ensures { λ r. ⌜ r ≡ noColumns ⌝ }
 {
-    [0u16; 256]
+    [0u16; SIDE_ROOM]
 }
 
 // A start from row i. A row without conflicts is passed over, before there is an array of columns entered.
 fn start_from(
-    lean: &[u8; 512],
-    m: u8,
+    lean: &[u8; LINE_ROOM],
+    m: u16,
     list: &[u8],
-    starts: &[u16; 257],
-    i: u8,
-    mate: &mut [u16; 256],
+    starts: &[u16; SIDE_ENDS],
+    i: u16,
+    mate: &mut [u16; SIDE_ROOM],
 ) -> Visit
     requires { ⌜ length (now mate) ≡ sideRoom ⌝ }
     ensures { λ r. ⌜ Starts (ground (now (lean .entry)) m (now (list .entry)) (now (starts .entry))) i (now (mate .entry)) r (now (mate .exit)) ⌝ }
@@ -191,13 +202,18 @@ fn start_from(
 }
 
 // The matching of the conflicts: a start from each row in turn.
-pub fn matching_of(m: u8, lean: &[u8; 512], list: &[u8], starts: &[u16; 257]) -> Matching
+pub fn matching_of(
+    m: u16,
+    lean: &[u8; LINE_ROOM],
+    list: &[u8],
+    starts: &[u16; SIDE_ENDS],
+) -> Matching
     ensures { λ r. ⌜ r ≡ matchingIn (ground (now (lean .entry)) m (now (list .entry)) (now (starts .entry))) ⌝ }
 {
     let mut mate = no_mates();
     let mut size: u64 = 0;
     let mut looks: u64 = 0;
-    let mut i: u8 = 0;
+    let mut i: u16 = 0;
     while i < m {
         let visit = start_from(lean, m, list, starts, i, &mut mate);
         size += long16(bit_of(visit.found));

@@ -1,6 +1,7 @@
 pub mod Checks
 pub mod Accepted
 pub mod Ascending
+pub mod Thin
 pub mod Spared
 pub mod Capped
 pub mod OfList

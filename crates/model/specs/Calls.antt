@@ -1,4 +1,4 @@
--- Document 01, 'Refusal table' and 'The walk', with document 02's requests 5 and 6: what an opening, a run and a showing answer, in
+-- Document 01, 'Refusal table' and 'The walk', with document 02's requests 5 to 7: what an opening, a run and a showing answer, in
 -- the table's order of checks.
 -- Assumes nothing.
 use mathlib.Core.Bool.{Bool, true, false, not}
@@ -8,7 +8,7 @@ use Prim.Native.Nat.{ℕ, zero, suc, _+_, _*_}
 use lib.Dec.{eqb, ltb, leb}
 use lib.ListN.{length, set}
 use Rattle.counting.specs.Tests.{_and_, _or_, bit}
-use Rattle.model.specs.declared.Word.the-variants.{TooBig, OffMatrix, ShortBuffer, Order, Cap, NoSplit, Budget, State}
+use Rattle.model.specs.declared.Word.the-variants.{TooBig, OffMatrix, ShortBuffer, Order, Cap, NoSplit, Budget, State, SplitNumber}
 use Rattle.model.specs.declared.Verdict.{Verdict}
 use Rattle.model.specs.declared.Verdict.the-variants.{Accepted, Refused}
 use Rattle.model.specs.declared.Caps.{Caps}
@@ -23,7 +23,7 @@ use Rattle.model.specs.declared.ShowAnswer.{ShowAnswer}
 use Rattle.model.specs.declared.ShowAnswer.the-variants as show-answer
 use Rattle.model.specs.Limits.{lineLimit, nonzeroLimit, percentLimit, budgetLimit, triesLimit}
 use Rattle.model.specs.Refusal.{Reply, given, noneYet, refusal, replyAfter, verdictReply, replyCode, refuse, _then_, eachVerdict}
-use Rattle.model.specs.Pattern.{Pattern, entryBytes, rowIn, columnIn, patternOf}
+use Rattle.model.specs.Pattern.{Pattern, entryBytes, rowPlace, columnPlace, highIn, rowIn, columnIn, patternOf}
 use Rattle.model.specs.Split.{Split, bothCaps, capsOutside, partNumber, volume, capFromPercent, restFromPercent}
 use Rattle.model.specs.Marking.{marking}
 use Rattle.model.specs.Walk.{Record, rulesOf, freshOf, walk, floor, shownSplit}
@@ -48,17 +48,26 @@ rises list (suc t) =
     ltb (rowIn list t) (rowIn list (suc t))
     or (eqb (rowIn list t) (rowIn list (suc t)) and ltb (columnIn list t) (columnIn list (suc t)))
 
--- 5, 10: row or column outside; list not strictly rising
+-- a row or column number with high byte over 1
+unfoldable pub splitNumber : List ℕ → ℕ → Bool
+splitNumber list t = ltb 1 (highIn list (rowPlace t)) or ltb 1 (highIn list (columnPlace t))
+
+-- row or column outside
+unfoldable pub offMatrix : ℕ → ℕ → List ℕ → ℕ → Bool
+offMatrix m n list t = leb m (rowIn list t) or leb n (columnIn list t)
+
+-- 17, 5, 10: a split number; row or column outside; list not strictly rising
 unfoldable pub entryVerdict : ℕ → ℕ → List ℕ → ℕ → Verdict
 entryVerdict m n list t =
-    refuse (leb m (rowIn list t) or leb n (columnIn list t)) OffMatrix t
+    refuse (splitNumber list t) SplitNumber t
+    then refuse (offMatrix m n list t) OffMatrix t
     then refuse (not (rises list t)) Order t
 
 -- per nonzero, in number order
 abbrev pub entriesVerdict : ℕ → ℕ → List ℕ → ℕ → Verdict
 entriesVerdict m n list = eachVerdict (entryVerdict m n list)
 
--- the checks of a list: 4, 9, then per nonzero 5, 10
+-- the checks of a list: 4, 9, then per nonzero 17, 5, 10
 unfoldable pub listVerdict : ℕ → ℕ → ℕ → List ℕ → Verdict
 listVerdict m n nonzeros list =
     sizesVerdict m n nonzeros

@@ -1,18 +1,22 @@
--- The limits of document 01, section 'What the splitter covers'.
+-- The limits of document 01, section 'What the splitter covers', with those of document 02's requests 6 and 7.
 -- Assumes nothing.
 use Prim.Native.Nat.{ℕ, _^_}
 
 -- rows m and columns n: 1 to this
 abbrev pub lineLimit : ℕ
-lineLimit = 120
+lineLimit = 300
+
+-- room of an array by line, more than lines m + n of an accepted list
+abbrev pub lineRoom : ℕ
+lineRoom = 1024
 
 -- nonzeros N: 0 to this, and at most m × n
 abbrev pub nonzeroLimit : ℕ
-nonzeroLimit = 2000
+nonzeroLimit = 4000
 
 -- cap: 0 to this
 abbrev pub capLimit : ℕ
-capLimit = 2000
+capLimit = 4000
 
 -- percentage e: 0 to this
 abbrev pub percentLimit : ℕ

@@ -1,24 +1,59 @@
--- Document 01, 'Pattern, split, cap': the list of nonzeros, the pattern, and its lines.
+-- Document 01, 'Pattern, split, cap', with the numbers of document 02's request 7: the list of nonzeros, the pattern, and its lines.
 -- Assumes nothing.
 use mathlib.Core.Bool.{Bool}
-use mathlib.Core.List.{List}
-use Prim.Native.Nat.{ℕ, _+_, _*_, _<_}
+use mathlib.Core.List.{List, [], _∷_}
+use Prim.Native.Nat.{ℕ, _+_, _*_, _/_, _%_, _<_}
 use lib.Dec.{eqb, ltb}
-use lib.ListN.{getD}
+use lib.ListN.{getD, set}
 use Rattle.counting.specs.Tests.{_or_}
 use Rattle.counting.specs.Sums.{count}
 
--- the bytes that a nonzero takes in a list
+-- the bytes that a row or column number takes in a list
+abbrev pub numberBytes : ℕ
+numberBytes = 2
+
+-- an entry of a list: a nonzero's row number, then its column number
 abbrev pub entryBytes : ℕ
-entryBytes = 2
+entryBytes = 2 * numberBytes
 
--- a nonzero's row byte
+-- where the numbers of a nonzero stand in a list
+abbrev pub rowPlace : ℕ → ℕ
+rowPlace t = entryBytes * t
+
+abbrev pub columnPlace : ℕ → ℕ
+columnPlace t = entryBytes * t + numberBytes
+
+-- the low and the high byte of the number at a place
+unfoldable pub lowIn : List ℕ → ℕ → ℕ
+lowIn list at = getD list at 0
+
+unfoldable pub highIn : List ℕ → ℕ → ℕ
+highIn list at = getD list (at + 1) 0
+
+-- a number of two bytes, lowest first
+unfoldable pub numberIn : List ℕ → ℕ → ℕ
+numberIn list at = lowIn list at + 256 * highIn list at
+
+-- a nonzero's row number
 unfoldable pub rowIn : List ℕ → ℕ → ℕ
-rowIn list t = getD list (entryBytes * t) 0
+rowIn list t = numberIn list (rowPlace t)
 
--- a nonzero's column byte
+-- a nonzero's column number
 unfoldable pub columnIn : List ℕ → ℕ → ℕ
-columnIn list t = getD list (entryBytes * t + 1) 0
+columnIn list t = numberIn list (columnPlace t)
+
+-- a list with this number at a place
+unfoldable pub withNumber : ℕ → ℕ → List ℕ → List ℕ
+withNumber at x list = set (set list at (x % 256)) (at + 1) (x / 256)
+
+-- a list with this row and column number for a nonzero
+unfoldable pub withEntry : ℕ → ℕ → ℕ → List ℕ → List ℕ
+withEntry t row column list = withNumber (columnPlace t) column (withNumber (rowPlace t) row list)
+
+-- the list that holds these row and column numbers
+abbrev pub listOf : List ℕ → List ℕ
+listOf [] = []
+listOf (x ∷ xs) = x % 256 ∷ x / 256 ∷ listOf xs
 
 -- pattern: m rows, n columns, N nonzeros numbered from 0, each in a row and a column counted from 0
 pub record Pattern : Type 0 where

@@ -1,10 +1,10 @@
--- Document 01, 'Refusal table', with the words of document 02's request 1: the numbers of its words, checks made one after another, and what a call replies in numbers.
+-- Document 01, 'Refusal table', with the words of document 02's requests 1 and 7: the numbers of its words, checks made one after another, and what a call replies in numbers.
 -- Assumes nothing.
 use mathlib.Core.Bool.{Bool, true, false}
 use mathlib.Core.List.{List, []}
 use Prim.Native.Nat.{ℕ, zero, suc, _+_, _*_}
 use Rattle.model.specs.declared.Word.{Word}
-use Rattle.model.specs.declared.Word.the-variants.{Banner, SizeLine, EntryForm, TooBig, OffMatrix, Repeated, Count, BadPart, ShortBuffer, Order, Cap, NoSplit, Budget, State, NotSquare, AboveDiagonal}
+use Rattle.model.specs.declared.Word.the-variants.{Banner, SizeLine, EntryForm, TooBig, OffMatrix, Repeated, Count, BadPart, ShortBuffer, Order, Cap, NoSplit, Budget, State, NotSquare, AboveDiagonal, SplitNumber}
 use Rattle.model.specs.declared.Verdict.{Verdict}
 use Rattle.model.specs.declared.Verdict.the-variants.{Accepted, Refused}
 
@@ -26,6 +26,7 @@ refusalNumber Budget = 13
 refusalNumber State = 14
 refusalNumber NotSquare = 15
 refusalNumber AboveDiagonal = 16
+refusalNumber SplitNumber = 17
 
 -- one check: refused with this word at this place where the test passes
 unfoldable pub refuse : Bool → Word → ℕ → Verdict

@@ -6,7 +6,7 @@ use Prim.Native.Nat.{ℕ}
 use lib.ListN.{getD}
 use Rattle.counting.specs.Tests.{_and_, _or_, pick, bit}
 use Rattle.counting.specs.Sums.{sum, any}
-use Rattle.model.specs.Pattern.{Pattern, rowIn, columnIn, patternOf, lines, rowLine, columnLine, on}
+use Rattle.model.specs.Pattern.{Pattern, lowIn, highIn, numberIn, rowIn, columnIn, listOf, patternOf, lines, rowLine, columnLine, on}
 use Rattle.model.specs.Marking.{Marking, takes, touched, conditionFor, condition}
 use Rattle.model.specs.Bound.{saysLeaning, leans, conflict, mostChosen, L4}
 use Rattle.model.specs.Matching.{looked, elseGo, columnsWhere, conflictOf, conflictColumns, through, withColumn, withMate, handOver, columnStep, columnWithin, startFrom, counted, startsFrom, matchingSearch, looks, conflicts, conflictRows}
@@ -18,7 +18,7 @@ columnsOf rows i = getD rows i []
 -- the pattern with rows ##a, #.a, bb. (counted from 0: row 2 marked 1 takes the b, column 2 marked 0 takes the a): rows 0 and 1 lean to 0,
 -- columns 0 and 1 lean to 1, and the # are conflicts
 abbrev crossed : Pattern
-crossed = patternOf 3 3 7 (0 ∷ 0 ∷ 0 ∷ 1 ∷ 0 ∷ 2 ∷ 1 ∷ 0 ∷ 1 ∷ 2 ∷ 2 ∷ 0 ∷ 2 ∷ 1 ∷ [])
+crossed = patternOf 3 3 7 (listOf (0 ∷ 0 ∷ 0 ∷ 1 ∷ 0 ∷ 2 ∷ 1 ∷ 0 ∷ 1 ∷ 2 ∷ 2 ∷ 0 ∷ 2 ∷ 1 ∷ []))
 
 abbrev crossedMarking : Marking
 crossedMarking l = getD (3 ∷ 3 ∷ 1 ∷ 3 ∷ 3 ∷ 0 ∷ []) l 3
@@ -57,7 +57,7 @@ pub record SampleLooks : Type 0 where
   pub crossed-rows : conflictRows crossed crossedMarking ≡ 2
 
 pub sample-looks : SampleLooks
-unfolding _and_ _or_ pick bit sum any rowIn columnIn patternOf lines rowLine columnLine on takes touched conditionFor condition saysLeaning leans conflict mostChosen L4 looked elseGo columnsWhere conflictOf conflictColumns through withColumn withMate handOver columnStep columnWithin startFrom counted startsFrom matchingSearch looks conflicts conflictRows
+unfolding _and_ _or_ pick bit sum any lowIn highIn numberIn rowIn columnIn patternOf lines rowLine columnLine on takes touched conditionFor condition saysLeaning leans conflict mostChosen L4 looked elseGo columnsWhere conflictOf conflictColumns through withColumn withMate handOver columnStep columnWithin startFrom counted startsFrom matchingSearch looks conflicts conflictRows
 sample-looks =
     record {
       both-want-one = refl;

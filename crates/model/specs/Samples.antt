@@ -12,7 +12,7 @@ use Rattle.counting.specs.Sums.{sum, any}
 use Rattle.model.specs.declared.Part.{Part}
 use Rattle.model.specs.declared.Part.the-variants.{Zero, One}
 use Rattle.model.specs.declared.Caps.{Caps}
-use Rattle.model.specs.declared.Word.the-variants.{TooBig, OffMatrix, ShortBuffer, Order, Cap, NoSplit, Budget, State}
+use Rattle.model.specs.declared.Word.the-variants.{TooBig, OffMatrix, ShortBuffer, Order, Cap, NoSplit, Budget, State, SplitNumber}
 use Rattle.model.specs.declared.Verdict.the-variants.{Accepted, Refused}
 use Rattle.model.specs.declared.Search.{Search}
 use Rattle.model.specs.declared.Ran.{Ran}
@@ -21,7 +21,7 @@ use Rattle.model.specs.declared.CapAnswer.the-variants as cap-answer
 use Rattle.model.specs.declared.ShowAnswer.{ShowAnswer}
 use Rattle.model.specs.declared.ShowAnswer.the-variants.{NoneYet}
 use Rattle.model.specs.declared.ShowAnswer.the-variants as show-answer
-use Rattle.model.specs.Pattern.{Pattern, rowIn, columnIn, patternOf, lines, rowLine, columnLine, on, lineCount, nonempty, lineTotal}
+use Rattle.model.specs.Pattern.{Pattern, lowIn, highIn, numberIn, rowIn, columnIn, listOf, patternOf, lines, rowLine, columnLine, on, lineCount, nonempty, lineTotal}
 use Rattle.model.specs.Split.{Split, holds, isCut, partsOn, volume, load, capsOf, bothCaps, unequal, capsOutside, ceilingHalf, capHundredths, capFromPercent, restFromPercent}
 use Rattle.model.specs.Marking.{Marking, precedes, place, markAt, marking, takes, taken, valid, touched, conditionFor, condition}
 use Rattle.model.specs.Bound.{saysLeaning, leans, L1, L2, L3, L4, untaken, atStake, untakenOn, falling, leaningCounts, strikes, struck, conflict, mostChosen, bound}
@@ -29,7 +29,7 @@ use Rattle.model.specs.Matching.{columnsWhere, conflictOf, conflictColum
 use Rattle.model.specs.Walk.{Record, rulesOf, fresh, freshOf, givesPart, oneAllowed, afterZero, advance, cuts, isEmpty, tried, improved, looksAt, stands, outcome, tryOnce, step, walk, walked, putLater, beginningsLater, openMarkings, leastBound, floor, filled, shownSplit}
 use Rattle.model.specs.Refusal.{refusalCode, given, noneYet, refusal, replyAfter, verdictReply, replyCode, verdictCode, refuse, _then_, eachVerdict}
 use Rattle.model.specs.State.{stack, marksIn, bestIn, recordOf, arrayOf, trailOf, isFound, bestOr, searchOf, areMarks, onesAllowed, beginningsValid, trailFine, bestFine, countsFine, stateFine}
-use Rattle.model.specs.Calls.{outside, sizesVerdict, rises, entryVerdict, listVerdict, openVerdict, runVerdict, showVerdict, capVerdict, capAfter, capCall, noRecord, openedAfter, openCall, ended, ranRecord, ranAfter, runCall, shownFrom, shown, partBytes, shownParts, shownAfter, partsAfter, showCall, showParts, completeNumber, capReply, runReply, showReply}
+use Rattle.model.specs.Calls.{outside, sizesVerdict, rises, splitNumber, offMatrix, entryVerdict, listVerdict, openVerdict, runVerdict, showVerdict, capVerdict, capAfter, capCall, noRecord, openedAfter, openCall, ended, ranRecord, ranAfter, runCall, shownFrom, shown, partBytes, shownParts, shownAfter, partsAfter, showCall, showParts, completeNumber, capReply, runReply, showReply}
 
 -- part p for nonzero t, and another split's parts for the others
 unfoldable pub withPart : Split → ℕ → Part → Split
@@ -76,33 +76,33 @@ showsParts P caps tries = shownParts P caps (walked P caps tries .best) (replica
 
 -- one nonzero, 1 by 1
 abbrev pub single : Pattern
-single = patternOf 1 1 1 (0 ∷ 0 ∷ [])
+single = patternOf 1 1 1 (listOf (0 ∷ 0 ∷ []))
 
 -- the 2 by 2 diagonal
 abbrev pub diagonalList : List ℕ
-diagonalList = 0 ∷ 0 ∷ 1 ∷ 1 ∷ []
+diagonalList = listOf (0 ∷ 0 ∷ 1 ∷ 1 ∷ [])
 
 abbrev pub diagonal : Pattern
 diagonal = patternOf 2 2 2 diagonalList
 
 -- full 2 by 2
 abbrev pub fullTwo : Pattern
-fullTwo = patternOf 2 2 4 (0 ∷ 0 ∷ 0 ∷ 1 ∷ 1 ∷ 0 ∷ 1 ∷ 1 ∷ [])
+fullTwo = patternOf 2 2 4 (listOf (0 ∷ 0 ∷ 0 ∷ 1 ∷ 1 ∷ 0 ∷ 1 ∷ 1 ∷ []))
 
 -- full 1 by 3
 abbrev pub fullRowList : List ℕ
-fullRowList = 0 ∷ 0 ∷ 0 ∷ 1 ∷ 0 ∷ 2 ∷ []
+fullRowList = listOf (0 ∷ 0 ∷ 0 ∷ 1 ∷ 0 ∷ 2 ∷ [])
 
 abbrev pub fullRow : Pattern
 fullRow = patternOf 1 3 3 fullRowList
 
 -- a row of three and a nonzero of its own row and column
 abbrev pub threeAndOne : Pattern
-threeAndOne = patternOf 2 4 4 (0 ∷ 0 ∷ 0 ∷ 1 ∷ 0 ∷ 2 ∷ 1 ∷ 3 ∷ [])
+threeAndOne = patternOf 2 4 4 (listOf (0 ∷ 0 ∷ 0 ∷ 1 ∷ 0 ∷ 2 ∷ 1 ∷ 3 ∷ []))
 
 -- counted from 1: (1,1), (1,2), (2,2)
 abbrev pub corner : Pattern
-corner = patternOf 2 2 3 (0 ∷ 0 ∷ 0 ∷ 1 ∷ 1 ∷ 1 ∷ [])
+corner = patternOf 2 2 3 (listOf (0 ∷ 0 ∷ 0 ∷ 1 ∷ 1 ∷ 1 ∷ []))
 
 -- 2 by 3 without nonzeros
 abbrev pub blank : Pattern
@@ -110,19 +110,19 @@ blank = patternOf 2 3 0 []
 
 -- counting a nonzero twice in s finds 2 here
 abbrev pub countedTwice : Pattern
-countedTwice = patternOf 3 4 8 (0 ∷ 2 ∷ 0 ∷ 3 ∷ 1 ∷ 1 ∷ 1 ∷ 2 ∷ 1 ∷ 3 ∷ 2 ∷ 0 ∷ 2 ∷ 2 ∷ 2 ∷ 3 ∷ [])
+countedTwice = patternOf 3 4 8 (listOf (0 ∷ 2 ∷ 0 ∷ 3 ∷ 1 ∷ 1 ∷ 1 ∷ 2 ∷ 1 ∷ 3 ∷ 2 ∷ 0 ∷ 2 ∷ 2 ∷ 2 ∷ 3 ∷ []))
 
 -- adding L3 to L4 finds 3 here
 abbrev pub addedBounds : Pattern
-addedBounds = patternOf 4 4 9 (0 ∷ 2 ∷ 1 ∷ 2 ∷ 1 ∷ 3 ∷ 2 ∷ 1 ∷ 2 ∷ 2 ∷ 2 ∷ 3 ∷ 3 ∷ 0 ∷ 3 ∷ 1 ∷ 3 ∷ 3 ∷ [])
+addedBounds = patternOf 4 4 9 (listOf (0 ∷ 2 ∷ 1 ∷ 2 ∷ 1 ∷ 3 ∷ 2 ∷ 1 ∷ 2 ∷ 2 ∷ 2 ∷ 3 ∷ 3 ∷ 0 ∷ 3 ∷ 1 ∷ 3 ∷ 3 ∷ []))
 
 -- holding free nonzeros against part 0 finds 3 here
 abbrev pub heldAgainst : Pattern
-heldAgainst = patternOf 3 3 6 (0 ∷ 2 ∷ 1 ∷ 0 ∷ 1 ∷ 1 ∷ 2 ∷ 0 ∷ 2 ∷ 1 ∷ 2 ∷ 2 ∷ [])
+heldAgainst = patternOf 3 3 6 (listOf (0 ∷ 2 ∷ 1 ∷ 0 ∷ 1 ∷ 1 ∷ 2 ∷ 0 ∷ 2 ∷ 1 ∷ 2 ∷ 2 ∷ []))
 
 -- full 1 by 2: never trying the first line as cut finds no split here
 abbrev pub neverCut : Pattern
-neverCut = patternOf 1 2 2 (0 ∷ 0 ∷ 0 ∷ 1 ∷ [])
+neverCut = patternOf 1 2 2 (listOf (0 ∷ 0 ∷ 0 ∷ 1 ∷ []))
 
 -- the corner's marking: column 1 is marked 0, row 2 is marked 1
 abbrev pub cornerMarking : Marking
@@ -130,7 +130,7 @@ cornerMarking l = getD (3 ∷ 1 ∷ 0 ∷ 3 ∷ []) l 3
 
 -- to unfold this is to unfold every definition that a sample computes with
 computing : Type 0
-unfolding _and_ _or_ pick bit sum any rowIn columnIn patternOf lines rowLine columnLine on lineCount nonempty lineTotal holds isCut partsOn volume load unequal capsOutside ceilingHalf capHundredths capFromPercent restFromPercent precedes place markAt marking takes taken valid touched conditionFor condition saysLeaning leans L1 L2 L3 L4 untaken atStake untakenOn falling leaningCounts strikes struck conflict mostChosen bound columnsWhere conflictOf conflictColumns looked elseGo through withColumn withMate handOver columnStep columnWithin startFrom counted startsFrom matchingSearch looks rulesOf fresh givesPart oneAllowed afterZero advance cuts isEmpty tried improved looksAt stands outcome tryOnce step walk putLater beginningsLater openMarkings leastBound floor filled shownSplit refusalCode given noneYet refusal replyAfter verdictReply replyCode verdictCode refuse _then_ stack marksIn bestIn recordOf arrayOf trailOf isFound bestOr searchOf areMarks onesAllowed beginningsValid trailFine bestFine countsFine stateFine outside sizesVerdict rises entryVerdict eachVerdict listVerdict openVerdict runVerdict showVerdict capVerdict capAfter capCall freshOf noRecord openedAfter openCall ended ranRecord ranAfter runCall shownFrom shown partBytes shownParts shownAfter partsAfter showCall showParts completeNumber capReply runReply showReply withPart meets leastAmong leastVolume meetingAmong meeting walked standsAt showsParts
+unfolding _and_ _or_ pick bit sum any lowIn highIn numberIn rowIn columnIn patternOf lines rowLine columnLine on lineCount nonempty lineTotal holds isCut partsOn volume load unequal capsOutside ceilingHalf capHundredths capFromPercent restFromPercent precedes place markAt marking takes taken valid touched conditionFor condition saysLeaning leans L1 L2 L3 L4 untaken atStake untakenOn falling leaningCounts strikes struck conflict mostChosen bound columnsWhere conflictOf conflictColumns looked elseGo through withColumn withMate handOver columnStep columnWithin startFrom counted startsFrom matchingSearch looks rulesOf fresh givesPart oneAllowed afterZero advance cuts isEmpty tried improved looksAt stands outcome tryOnce step walk putLater beginningsLater openMarkings leastBound floor filled shownSplit refusalCode given noneYet refusal replyAfter verdictReply replyCode verdictCode refuse _then_ stack marksIn bestIn recordOf arrayOf trailOf isFound bestOr searchOf areMarks onesAllowed beginningsValid trailFine bestFine countsFine stateFine outside sizesVerdict rises splitNumber offMatrix entryVerdict eachVerdict listVerdict openVerdict runVerdict showVerdict capVerdict capAfter capCall freshOf noRecord openedAfter openCall ended ranRecord ranAfter runCall shownFrom shown partBytes shownParts shownAfter partsAfter showCall showParts completeNumber capReply runReply showReply withPart meets leastAmong leastVolume meetingAmong meeting walked standsAt showsParts
 computing = Unit
 
 -- the samples marked P
@@ -142,7 +142,7 @@ pub record Samples : Type 0 where
   pub cap-3-0 : capFromPercent 3 0 ≡ 2
   -- one nonzero, 1 by 1, cap 1: volume 0, 5 tries; cap 0: refusal 12
   pub single-ends : Stands single (bothCaps 1) 100 true 5 (show-answer.Split 0 0)
-  pub single-refused : verdictCode (openVerdict 1 1 1 (0 ∷ 0 ∷ []) (bothCaps 0)) ≡ 12
+  pub single-refused : verdictCode (openVerdict 1 1 1 (listOf (0 ∷ 0 ∷ [])) (bothCaps 0)) ≡ 12
   -- the 2 by 2 diagonal, cap 1: volume 0, 11 tries; after 3 tries none yet, floor 0
   pub diagonal-ends : Stands diagonal (bothCaps 1) 100 true 11 (show-answer.Split 0 0)
   pub diagonal-none-yet : Stands diagonal (bothCaps 1) 3 false 3 (NoneYet 0)
@@ -266,7 +266,7 @@ unequalCaps =
 
 -- request 6, rows .##, #.#, ##. and #..: a walk on which it shows whose looks are counted
 abbrev pub ring : Pattern
-ring = patternOf 4 3 7 (0 ∷ 1 ∷ 0 ∷ 2 ∷ 1 ∷ 0 ∷ 1 ∷ 2 ∷ 2 ∷ 0 ∷ 2 ∷ 1 ∷ 3 ∷ 0 ∷ [])
+ring = patternOf 4 3 7 (listOf (0 ∷ 1 ∷ 0 ∷ 2 ∷ 1 ∷ 0 ∷ 1 ∷ 2 ∷ 2 ∷ 0 ∷ 2 ∷ 1 ∷ 3 ∷ 0 ∷ []))
 
 pub record CountedLooks : Type 0 where
   -- the looks of valid trails, standing or not, are 4; with those of a trail that is not valid they would be 5, those of trails that stand are 3
@@ -331,15 +331,28 @@ pub record CallSamples : Type 0 where
   pub looks-taken : runVerdict (counting 3 12) 2 2 2 diagonalList 1 ≡ Accepted
   pub looks-refused : runVerdict (counting 3 13) 2 2 2 diagonalList 1 ≡ Refused State 0
   pub no-rows : listVerdict 0 2 2 diagonalList ≡ Refused TooBig 0
-  pub rows-taken : sizesVerdict 120 120 2000 ≡ Accepted
-  pub rows-refused : sizesVerdict 121 120 2000 ≡ Refused TooBig 0
+  pub rows-taken : sizesVerdict 300 300 4000 ≡ Accepted
+  pub rows-refused : sizesVerdict 301 300 4000 ≡ Refused TooBig 0
+  pub columns-refused : sizesVerdict 300 301 4000 ≡ Refused TooBig 0
+  pub nonzeros-refused : sizesVerdict 300 300 4001 ≡ Refused TooBig 0
   pub cells-refused : sizesVerdict 2 2 5 ≡ Refused TooBig 0
-  pub short-list : listVerdict 2 2 2 (0 ∷ 0 ∷ 1 ∷ []) ≡ Refused ShortBuffer 0
-  pub off-matrix : listVerdict 2 2 2 (0 ∷ 0 ∷ 0 ∷ 2 ∷ []) ≡ Refused OffMatrix 1
-  pub out-of-order : listVerdict 2 2 2 (1 ∷ 1 ∷ 0 ∷ 0 ∷ []) ≡ Refused Order 1
-  pub repeated : listVerdict 2 2 2 (1 ∷ 1 ∷ 1 ∷ 1 ∷ []) ≡ Refused Order 1
-  pub cap-0-refused : openVerdict 2 2 2 diagonalList (capsOf 2001 0) ≡ Refused Cap 0
-  pub cap-1-refused : openVerdict 2 2 2 diagonalList (capsOf 0 2001) ≡ Refused Cap 0
+  -- an entry takes four bytes, row low, row high, column low, column high
+  pub short-list : listVerdict 2 2 2 (0 ∷ 0 ∷ 0 ∷ 0 ∷ 1 ∷ 0 ∷ 1 ∷ []) ≡ Refused ShortBuffer 0
+  pub last-line : rowIn (43 ∷ 1 ∷ 44 ∷ 0 ∷ []) 0 ≡ 299
+  pub last-line-taken : listVerdict 300 300 1 (43 ∷ 1 ∷ 43 ∷ 1 ∷ []) ≡ Accepted
+  pub past-last-line : listVerdict 300 300 1 (43 ∷ 1 ∷ 44 ∷ 1 ∷ []) ≡ Refused OffMatrix 0
+  -- per nonzero 17, 5, 10: 511 is off the matrix, 512 a split number, and each comes before what follows it
+  pub off-below-split : listVerdict 300 300 1 (255 ∷ 1 ∷ 0 ∷ 0 ∷ []) ≡ Refused OffMatrix 0
+  pub split-row : listVerdict 300 300 1 (0 ∷ 2 ∷ 0 ∷ 0 ∷ []) ≡ Refused SplitNumber 0
+  pub split-column : listVerdict 2 2 2 (listOf (0 ∷ 0 ∷ 1 ∷ 512 ∷ [])) ≡ Refused SplitNumber 1
+  pub split-before-off : listVerdict 2 2 1 (listOf (2 ∷ 512 ∷ [])) ≡ Refused SplitNumber 0
+  pub off-before-later-split : listVerdict 2 2 2 (listOf (2 ∷ 0 ∷ 512 ∷ 0 ∷ [])) ≡ Refused OffMatrix 0
+  pub order-before-later-split : listVerdict 2 2 3 (listOf (1 ∷ 1 ∷ 0 ∷ 0 ∷ 512 ∷ 0 ∷ [])) ≡ Refused Order 1
+  pub off-matrix : listVerdict 2 2 2 (listOf (0 ∷ 0 ∷ 0 ∷ 2 ∷ [])) ≡ Refused OffMatrix 1
+  pub out-of-order : listVerdict 2 2 2 (listOf (1 ∷ 1 ∷ 0 ∷ 0 ∷ [])) ≡ Refused Order 1
+  pub repeated : listVerdict 2 2 2 (listOf (1 ∷ 1 ∷ 1 ∷ 1 ∷ [])) ≡ Refused Order 1
+  pub cap-0-refused : openVerdict 2 2 2 diagonalList (capsOf 4001 0) ≡ Refused Cap 0
+  pub cap-1-refused : openVerdict 2 2 2 diagonalList (capsOf 0 4001) ≡ Refused Cap 0
   pub caps-taken : openVerdict 2 2 2 diagonalList (capsOf 0 2) ≡ Accepted
   pub sum-refused : openVerdict 2 2 2 diagonalList (capsOf 1 0) ≡ Refused NoSplit 0
   pub percent-taken : capCall 233 3 ≡ cap-answer.Capped 120 51
@@ -347,13 +360,13 @@ pub record CallSamples : Type 0 where
   pub no-rest : capCall 4 0 ≡ cap-answer.Capped 2 0
   pub most-rest : capCall 1 99 ≡ cap-answer.Capped 1 99
   pub percent-refused : capCall 233 101 ≡ cap-answer.Refused Cap 0
-  pub percent-too-big : capCall 2001 101 ≡ cap-answer.Refused TooBig 0
+  pub percent-too-big : capCall 4001 101 ≡ cap-answer.Refused TooBig 0
   -- what calls reply in numbers
   pub begun-reply : showReply (showCall (begun .search) 2 2 2 diagonalList (7 ∷ 7 ∷ [])) ≡ record { number = 255; place = 0; values = 0 ∷ [] }
   pub finished-reply : runReply (finished .answer) ≡ record { number = 0; place = 0; values = 1 ∷ 0 ∷ [] }
   pub percent-reply : capReply (capCall 233 3) ≡ record { number = 0; place = 0; values = 120 ∷ 51 ∷ [] }
-  pub order-reply : verdictReply (listVerdict 2 2 2 (1 ∷ 1 ∷ 0 ∷ 0 ∷ [])) ≡ record { number = 10; place = 1; values = [] }
-  pub order-code : verdictCode (listVerdict 2 2 2 (1 ∷ 1 ∷ 0 ∷ 0 ∷ [])) ≡ 266
+  pub order-reply : verdictReply (listVerdict 2 2 2 (listOf (1 ∷ 1 ∷ 0 ∷ 0 ∷ []))) ≡ record { number = 10; place = 1; values = [] }
+  pub order-code : verdictCode (listVerdict 2 2 2 (listOf (1 ∷ 1 ∷ 0 ∷ 0 ∷ []))) ≡ 266
 
 pub callSamples : CallSamples
 unfolding computing
@@ -379,8 +392,19 @@ callSamples =
       no-rows = refl;
       rows-taken = refl;
       rows-refused = refl;
+      columns-refused = refl;
+      nonzeros-refused = refl;
       cells-refused = refl;
       short-list = refl;
+      last-line = refl;
+      last-line-taken = refl;
+      past-last-line = refl;
+      off-below-split = refl;
+      split-row = refl;
+      split-column = refl;
+      split-before-off = refl;
+      off-before-later-split = refl;
+      order-before-later-split = refl;
       off-matrix = refl;
       out-of-order = refl;
       repeated = refl;

@@ -7,12 +7,13 @@ use Prim.Native.Nat.{ℕ, zero, suc, _+_, _*_}
 use lib.Dec.{eqb, leb}
 use lib.ListN.{length, getD, set, replicate}
 use Rattle.counting.specs.Tests.{_and_, _or_}
+use Rattle.trail.specs.Trail.{markRoom}
 use Rattle.trail.specs.declared.Trail.{Trail}
 use Rattle.model.specs.declared.Mark.the-variants.{To, Cut}
 use Rattle.model.specs.declared.Part.the-variants.{One}
 use Rattle.model.specs.declared.Caps.{Caps}
 use Rattle.model.specs.declared.Search.{Search}
-use Rattle.model.specs.Limits.{lineLimit, triesLimit}
+use Rattle.model.specs.Limits.{triesLimit}
 use Rattle.model.specs.Split.{capsOf, capsOutside}
 use Rattle.model.specs.Marking.{markNumber}
 use Rattle.model.specs.Walk.{Record, Rules, oneAllowed, cuts, isEmpty}
@@ -53,7 +54,7 @@ recordOf s =
 
 -- a marking's marks in an array with room for every line, 0 past its length
 unfoldable pub arrayOf : List ℕ → List ℕ
-arrayOf [] = replicate (2 * lineLimit) 0
+arrayOf [] = replicate markRoom 0
 arrayOf (x ∷ xs) = set (arrayOf xs) (length xs) x
 
 -- a marking as the code holds it

@@ -2,6 +2,8 @@
 // specs/ says what they must compute.
 use trail::Trail;
 
+pub mod limits;
+
 // A part of a split: processor 0 or processor 1.
 pub enum Part {
     Zero,
@@ -40,6 +42,7 @@ pub enum Word {
     State,
     NotSquare,
     AboveDiagonal,
+    SplitNumber,
 }
 
 // What a check answers: nothing to refuse, or a word of the table and a place.

@@ -2,10 +2,11 @@
 -- Assumes nothing.
 use mathlib.Core.List.{List, [], _∷_}
 use mathlib.Core.Path.{_≡_, refl, sym, _∙_, ap}
-use Prim.Native.Nat.{ℕ, _≤_, _<_}
+use Prim.Native.Nat.{ℕ, _+_, _≤_, _<_}
 use native.Mathlib.Omega.{arith}
 use lib.ListN.{length, getD}
 use borrow.Author.Tests.{lt-ltb, le-ltb}
+use Rattle.model.specs.Limits.{lineRoom}
 use Rattle.model.specs.declared.Part.{Part}
 use Rattle.model.specs.declared.Word.{Word}
 use Rattle.model.specs.declared.Word.the-variants.{BadPart, ShortBuffer}
@@ -19,7 +20,7 @@ use Rattle.pattern.specs.declared.Measured.{Measured}
 use Rattle.pattern.specs.declared.Measured.the-variants as measured
 use Rattle.pattern.specs.Splits.{splitOf, loadOf}
 use Rattle.pattern.specs.Measures.{partVerdict, partsVerdict, measureVerdict, measuredAfter, volumeCall, loadCall, measuredReply}
-use Rattle.model.proofs.Theorems.Checks.{refuse-so, refuse-no, then-accepted, then-refused, then-first}
+use Rattle.model.proofs.Theorems.Checks.{refuse-so, refuse-no, then-accepted, then-refused, then-first, rows-range, columns-range}
 use Rattle.pattern.proofs.Lines.{load-is}
 
 module _ (parts : List ℕ) (t byte : ℕ) (e : byte ≡ getD parts t 0) where
@@ -60,6 +61,12 @@ module _ (m n nonzeros : ℕ) (list parts : List ℕ) where
   pub measure-sizes : measureVerdict m n nonzeros list parts ≡ Accepted → sizesVerdict m n nonzeros ≡ Accepted
   unfolding measureVerdict listVerdict
   measure-sizes h = then-first _ _ (then-first _ _ (then-first _ _ h))
+
+  -- and there is room for every line
+  pub lines-few : measureVerdict m n nonzeros list parts ≡ Accepted → m + n ≤ lineRoom
+  lines-few h =
+      let sizes = measure-sizes h in
+      omega (arith, rows-range m n nonzeros sizes .1, columns-range m n nonzeros sizes .1)
 
   pub volume-value :
       (value : ℕ) → measureVerdict m n nonzeros list parts ≡ Accepted →

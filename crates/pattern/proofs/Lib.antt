@@ -1,3 +1,6 @@
+pub mod Within
 pub mod Verdicts
 pub mod Lines
 pub mod Answers
+pub mod Words
+pub mod Numbers

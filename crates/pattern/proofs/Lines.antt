@@ -15,6 +15,7 @@ use Rattle.counting.specs.Tests.{_and_, _or_, pick}
 use Rattle.counting.specs.Sums.{sum, count, any}
 use Rattle.counting.proofs.Joined.{by-test, no-way, or-left, pick-true, pick-false, or-passed}
 use Rattle.counting.proofs.Counted.{count-eq, any-more}
+use Rattle.model.specs.Limits.{lineRoom}
 use Rattle.model.proofs.Part.{enum}
 use Rattle.model.specs.declared.Part.{Part}
 use Rattle.model.specs.declared.Part.the-variants.{Zero, One}
@@ -71,9 +72,9 @@ with-length m list parts p t held = by-case (inPart parts p t)
     by-case true = simp length-set
     by-case false = refl
 
-pub held-length : (m : ℕ) (list parts : List ℕ) (p : Part) (t : ℕ) → length (heldLines m list parts p t) ≡ 512
+pub held-length : (m : ℕ) (list parts : List ℕ) (p : Part) (t : ℕ) → length (heldLines m list parts p t) ≡ lineRoom
 unfolding heldLines noLines
-held-length m list parts p zero = length-replicate {A = ℕ} 512 0
+held-length m list parts p zero = length-replicate {A = ℕ} lineRoom 0
 held-length m list parts p (suc t) =
     with-length m list parts p t (heldLines m list parts p t) ∙ held-length m list parts p t
 
@@ -98,11 +99,11 @@ module _ (m n nonzeros : ℕ) (list parts : List ℕ) (p : Part) (l : ℕ) where
 
   -- a line is held if one of the nonzeros passed is on it and in the part
   held-any :
-      (t : ℕ) → l < 512 →
+      (t : ℕ) → l < lineRoom →
       isHeld (heldLines m list parts p t) l
       ≡ any (λ s. on (patternOf m n nonzeros list) l s and inPart parts p s) t
   unfolding heldLines noLines isHeld any sum
-  held-any zero b = ap (λ x. eqb x 1) (getD-replicate 512 l 0 0 b)
+  held-any zero b = ap (λ x. eqb x 1) (getD-replicate lineRoom l 0 0 b)
   held-any (suc t) b =
       with-more t (heldLines m list parts p t) (omega (arith, held-length m list parts p t))
       ∙ ap (λ x. x or (on (patternOf m n nonzeros list) l t and inPart parts p t)) (held-any t b)
@@ -111,14 +112,14 @@ module _ (m n nonzeros : ℕ) (list parts : List ℕ) (p : Part) (l : ℕ) where
 
   -- the lines held are those that have a nonzero in the part
   pub held-holds :
-      l < 512 →
+      l < lineRoom →
       isHeld (heldLines m list parts p nonzeros) l ≡ holds (patternOf m n nonzeros list) (splitOf parts) p l
   unfolding holds patternOf inPart
   held-holds b = held-any nonzeros b
 
 -- the number of lines held for both parts is the volume
 pub cuts-are-volume :
-    (m n nonzeros : ℕ) (list parts : List ℕ) → m + n ≤ 512 →
+    (m n nonzeros : ℕ) (list parts : List ℕ) → m + n ≤ lineRoom →
     count (bothHeld (heldLines m list parts Zero nonzeros) (heldLines m list parts One nonzeros)) (m + n)
     ≡ volume (patternOf m n nonzeros list) (splitOf parts)
 unfolding bothHeld isCut lines patternOf
@@ -192,7 +193,7 @@ both-from zeros ones l a b both z o h = h ∙ rw (z, o)
 -- the volume, from lists of lines that were found so
 pub volume-from :
     (m n nonzeros : ℕ) (list parts zeros ones : List ℕ) →
-    zeros ≡ heldLines m list parts Zero nonzeros → ones ≡ heldLines m list parts One nonzeros → m + n ≤ 512 →
+    zeros ≡ heldLines m list parts Zero nonzeros → ones ≡ heldLines m list parts One nonzeros → m + n ≤ lineRoom →
     count (bothHeld zeros ones) (m + n) ≡ volume (patternOf m n nonzeros list) (splitOf parts)
 volume-from m n nonzeros list parts zeros ones z o b =
     ap (λ held. count (bothHeld held ones) (m + n)) z

@@ -3,26 +3,26 @@
 use mathlib.Core.Bool.{Bool, true, false, not}
 use mathlib.Core.List.{List}
 use mathlib.Core.Path.{_≡_, refl, sym, _∙_, ap}
-use Prim.Native.Nat.{ℕ, zero, suc, _-_, _*_, _≤_, _<_}
+use Prim.Native.Nat.{ℕ, zero, suc, _+_, _-_, _*_, _≤_, _<_}
 use native.Mathlib.Omega.{arith}
 use denote.Enum.Declared.{tagOf, declared}
 use lib.Dec.{ltb, leb, eqb}
-use lib.ListN.{length}
+use lib.ListN.{length, getD}
 use borrow.Author.Tests.{lt-ltb, le-ltb, le-leb, lt-leb, eq-eqb, ne-eqb}
 use Rattle.counting.specs.Tests.{_and_, _or_}
-use Rattle.counting.proofs.Joined.{no-way, and-fails-left, or-left, or-right, or-fails}
+use Rattle.counting.proofs.Joined.{no-way, and-fails-left, or-left, or-right, or-passed, or-fails}
 use Rattle.model.proofs.Verdict.{enum}
 use Rattle.model.specs.declared.Word.{Word}
-use Rattle.model.specs.declared.Word.the-variants.{TooBig, OffMatrix, ShortBuffer, Order}
+use Rattle.model.specs.declared.Word.the-variants.{TooBig, OffMatrix, ShortBuffer, Order, SplitNumber}
 use Rattle.model.specs.declared.Verdict.{Verdict}
 use Rattle.model.specs.declared.Verdict.the-variants.{Accepted, Refused}
 use Rattle.model.specs.declared.Caps.{Caps}
 use Rattle.model.specs.Limits.{lineLimit, nonzeroLimit}
-use Rattle.model.specs.Refusal.{_then_}
-use Rattle.model.specs.Pattern.{rowIn, columnIn}
-use Rattle.model.specs.Calls.{outside, sizesVerdict, rises, entryVerdict, entriesVerdict, listVerdict, openVerdict}
+use Rattle.model.specs.Refusal.{_then_, refuse}
+use Rattle.model.specs.Pattern.{entryBytes, rowPlace, columnPlace, highIn, rowIn, columnIn}
+use Rattle.model.specs.Calls.{outside, sizesVerdict, rises, splitNumber, offMatrix, entryVerdict, entriesVerdict, listVerdict, openVerdict}
 use Rattle.model.proofs.Theorems.Checks.{refuse-so, refuse-no, then-accepted, then-refused, then-assoc}
-use Rattle.pattern.specs.Checks.{offMatrix, capsVerdict}
+use Rattle.pattern.specs.Checks.{capsVerdict}
 
 -- the tests of the sizes
 unfoldable pub tooBig : ℕ → ℕ → ℕ → Bool
@@ -119,6 +119,23 @@ rises-not list t a b h e f l q =
     (le-ltb (rowIn list (t - 1)) (rowIn list t) (omega arith))
     (and-fails-left _ (ne-eqb (rowIn list (t - 1)) (rowIn list t) (λ z. q (e ∙ z ∙ sym f))))
 
+module _ (list : List ℕ) (t at : ℕ) (here : at ≡ rowPlace t) where
+  -- the row's high byte tells
+  pub split-by-row : (a : ℕ) → a ≡ getD list (at + 1) 0 → 1 < a → ltb 1 a ≡ splitNumber list t
+  unfolding splitNumber highIn
+  split-by-row a e l =
+      lt-ltb 1 a l
+      ∙ sym (or-left _ (ap (λ (i : ℕ). ltb 1 (getD list (i + 1) 0)) (sym here) ∙ ap (ltb 1) (sym e) ∙ lt-ltb 1 a l))
+
+  -- it is in order, so the column's tells
+  pub split-by-column :
+      (a b : ℕ) → a ≡ getD list (at + 1) 0 → a ≤ 1 → b ≡ getD list (at + 3) 0 → ltb 1 b ≡ splitNumber list t
+  unfolding splitNumber highIn
+  split-by-column a b e l f =
+      let there : at + 3 ≡ columnPlace t + 1 = omega (arith, here) in
+      ap (ltb 1) (f ∙ ap (λ (i : ℕ). getD list i 0) there)
+      ∙ sym (or-passed _ (ap (λ (i : ℕ). ltb 1 (getD list (i + 1) 0)) (sym here) ∙ ap (ltb 1) (sym e) ∙ le-ltb 1 a l))
+
 module _ (m n : ℕ) (list : List ℕ) (t : ℕ) where
   -- the row tells
   pub off-by-row : (a : ℕ) → a ≡ rowIn list t → m ≤ a → leb m a ≡ offMatrix m n list t
@@ -132,18 +149,6 @@ module _ (m n : ℕ) (list : List ℕ) (t : ℕ) where
   unfolding offMatrix _or_
   off-by-column a b e l f = rw (lt-leb m (rowIn list t) (omega arith), f)
 
-  pub entry-off : offMatrix m n list t ≡ true → entryVerdict m n list t ≡ Refused OffMatrix t
-  unfolding entryVerdict offMatrix
-  entry-off h = then-refused _ (refuse-so OffMatrix t h)
-
-  pub entry-fine : offMatrix m n list t ≡ false → rises list t ≡ true → entryVerdict m n list t ≡ Accepted
-  unfolding entryVerdict offMatrix
-  entry-fine h r = then-accepted _ (refuse-no OffMatrix t h) ∙ refuse-no Order t (ap not r)
-
-  pub entry-order : offMatrix m n list t ≡ false → rises list t ≡ false → entryVerdict m n list t ≡ Refused Order t
-  unfolding entryVerdict offMatrix
-  entry-order h r = then-accepted _ (refuse-no OffMatrix t h) ∙ refuse-so Order t (ap not r)
-
 module _ (m n nonzeros : ℕ) (list : List ℕ) where
   pub list-sizes :
       (word : Word) (place : ℕ) → sizesVerdict m n nonzeros ≡ Refused word place →
@@ -152,17 +157,17 @@ module _ (m n nonzeros : ℕ) (list : List ℕ) where
   list-sizes word place h = then-refused _ (then-refused _ h)
 
   pub list-short :
-      sizesVerdict m n nonzeros ≡ Accepted → length list < 2 * nonzeros →
+      sizesVerdict m n nonzeros ≡ Accepted → length list < entryBytes * nonzeros →
       listVerdict m n nonzeros list ≡ Refused ShortBuffer 0
   unfolding listVerdict
-  list-short h l = then-refused _ (then-accepted _ h ∙ refuse-so ShortBuffer 0 (lt-ltb (length list) (2 * nonzeros) l))
+  list-short h l = then-refused _ (then-accepted _ h ∙ refuse-so ShortBuffer 0 (lt-ltb (length list) (entryBytes * nonzeros) l))
 
   pub list-entries :
-      sizesVerdict m n nonzeros ≡ Accepted → 2 * nonzeros ≤ length list →
+      sizesVerdict m n nonzeros ≡ Accepted → entryBytes * nonzeros ≤ length list →
       listVerdict m n nonzeros list ≡ entriesVerdict m n list nonzeros
   unfolding listVerdict
   list-entries h l =
-      then-accepted _ (then-accepted _ h ∙ refuse-no ShortBuffer 0 (le-ltb (length list) (2 * nonzeros) l))
+      then-accepted _ (then-accepted _ h ∙ refuse-no ShortBuffer 0 (le-ltb (length list) (entryBytes * nonzeros) l))
 
 -- an opening: the list's checks, then those of the caps
 pub open-is :

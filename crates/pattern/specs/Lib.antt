@@ -1,3 +1,4 @@
+pub mod Room
 pub mod Checks
 pub mod Splits
 pub mod Measures

@@ -7,6 +7,7 @@ use lib.Dec.{eqb}
 use lib.ListN.{getD, set, replicate}
 use Rattle.counting.specs.Tests.{_and_, pick}
 use Rattle.counting.specs.Sums.{count}
+use Rattle.model.specs.Limits.{lineRoom}
 use Rattle.model.specs.declared.Part.{Part}
 use Rattle.model.specs.declared.Part.the-variants.{Zero, One}
 use Rattle.model.specs.Pattern.{rowIn, columnIn}
@@ -24,9 +25,9 @@ inPart parts p t = samePart p (splitOf parts t)
 unfoldable pub loadOf : List ℕ → ℕ → Part → ℕ
 loadOf parts nonzeros p = count (inPart parts p) nonzeros
 
--- no line held; there are 512 places, which is more than 255 + 255
+-- no line held; there is a place for every line
 unfoldable pub noLines : List ℕ
-noLines = replicate 512 0
+noLines = replicate lineRoom 0
 
 -- both lines of nonzero t held, where it is in part p
 unfoldable pub heldWith : ℕ → List ℕ → List ℕ → Part → ℕ → List ℕ → List ℕ

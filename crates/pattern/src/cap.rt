@@ -2,6 +2,9 @@
 use model::CapAnswer;
 use model::Caps;
 use model::Word;
+use model::limits::CAP_LIMIT;
+use model::limits::NONZERO_LIMIT;
+use model::limits::PERCENT_LIMIT;
 ghost use mathlib.Core.Path.{_≡_};
 ghost use Rattle.model.specs.Split.{unequal, capsOutside};
 ghost use Rattle.model.specs.Calls.{capCall, capReply, capReplies};
@@ -11,10 +14,10 @@ pub fn cap_from_percent(nonzeros: u64, percent: u64) -> CapAnswer
     ensures answer { λ r. ⌜ r ≡ capCall nonzeros percent ⌝ }
     ensures reply { λ r. ⌜ capReply r ≡ capReplies nonzeros percent ⌝ }
 {
-    if 2000 < nonzeros {
+    if NONZERO_LIMIT < nonzeros {
         return CapAnswer::Refused(Word::TooBig, 0);
     }
-    if 100 < percent {
+    if PERCENT_LIMIT < percent {
         return CapAnswer::Refused(Word::Cap, 0);
     }
     let hundredths = (100 + percent) * ((nonzeros + 1) / 2);
@@ -28,7 +31,7 @@ pub fn cap_from_percent(nonzeros: u64, percent: u64) -> CapAnswer
 pub fn caps_outside(caps: Caps) -> bool
     ensures { λ r. ⌜ r ≡ capsOutside caps ⌝ }
 {
-    2000 < caps.cap0 || 2000 < caps.cap1
+    CAP_LIMIT < caps.cap0 || CAP_LIMIT < caps.cap1
 }
 
 // The caps are unequal.

@@ -1,23 +1,27 @@
 // The checks of a list of nonzeros and of an opening, in the refusal table's order.
 use crate::cap::caps_outside;
+use crate::reading::byte_at;
 use crate::reading::column_of;
-use crate::reading::long;
 use crate::reading::long16;
 use crate::reading::row_of;
+use crate::reading::wide16;
 use model::Caps;
 use model::Verdict;
 use model::Word;
+use model::limits::LINE_LIMIT;
+use model::limits::NONZERO_LIMIT;
+ghost use mathlib.Core.Bool.{not};
 ghost use mathlib.Core.Path.{_≡_};
 ghost use Rattle.model.specs.Limits.{lineLimit};
-ghost use Rattle.model.specs.Refusal.{_then_, verdictReply};
-ghost use Rattle.model.specs.Calls.{outside, rises, sizesVerdict, entryVerdict, entriesVerdict, listVerdict, openVerdict, listReplies, openReplies};
-ghost use Rattle.pattern.specs.Checks.{offMatrix, capsVerdict};
+ghost use Rattle.model.specs.Refusal.{refuse, _then_, verdictReply};
+ghost use Rattle.model.specs.Calls.{outside, rises, sizesVerdict, splitNumber, offMatrix, entryVerdict, entriesVerdict, listVerdict, openVerdict, listReplies, openReplies};
+ghost use Rattle.pattern.specs.Checks.{capsVerdict};
 
 // A number of rows or columns outside its range.
 fn outside_lines(x: u64) -> bool
     ensures { λ r. ⌜ r ≡ outside lineLimit x ⌝ }
 {
-    x == 0 || 120 < x
+    x == 0 || LINE_LIMIT < x
 }
 
 // 4: m, n or N outside its range.
@@ -30,13 +34,33 @@ pub fn sizes_verdict(m: u64, n: u64, nonzeros: u64) -> Verdict
     if outside_lines(n) {
         return Verdict::Refused(Word::TooBig, 0);
     }
-    if 2000 < nonzeros {
+    if NONZERO_LIMIT < nonzeros {
         return Verdict::Refused(Word::TooBig, 0);
     }
     if m * n < nonzeros {
         return Verdict::Refused(Word::TooBig, 0);
     }
     Verdict::Accepted
+}
+
+// A refusal where the test passes.
+pub fn refuse_if(test: bool, word: Word, place: u64) -> Verdict
+    ensures { λ r. ⌜ r ≡ refuse test word place ⌝ }
+{
+    if test {
+        return Verdict::Refused(word, place);
+    }
+    Verdict::Accepted
+}
+
+// A refusal where the test fails.
+pub fn refuse_unless(test: bool, word: Word, place: u64) -> Verdict
+    ensures { λ r. ⌜ r ≡ refuse (not test) word place ⌝ }
+{
+    if test {
+        return Verdict::Accepted;
+    }
+    Verdict::Refused(word, place)
 }
 
 // The second check is made where the first refuses nothing.
@@ -69,27 +93,35 @@ fn is_rising(list: &[u8], t: u16) -> bool
     false
 }
 
+// The row or the column number of nonzero t has a high byte over 1.
+fn is_split(list: &[u8], t: u16) -> bool
+    ensures { λ r. ⌜ r ≡ splitNumber (now (list .entry)) t ⌝ }
+{
+    let at = 4 * wide16(t);
+    let row = byte_at(list, at + 1);
+    let column = byte_at(list, at + 3);
+    1 < row || 1 < column
+}
+
 // Nonzero t lies outside the matrix.
 fn is_off(m: u64, n: u64, list: &[u8], t: u16) -> bool
     ensures { λ r. ⌜ r ≡ offMatrix m n (now (list .entry)) t ⌝ }
 {
-    let row = long(row_of(list, t));
-    let column = long(column_of(list, t));
+    let row = long16(row_of(list, t));
+    let column = long16(column_of(list, t));
     m <= row || n <= column
 }
 
-// 5, 10: row or column outside; list not strictly rising.
+// 17, 5, 10: a split number; row or column outside; list not strictly rising.
 pub fn entry_verdict(m: u64, n: u64, list: &[u8], t: u16) -> Verdict
     ensures { λ r. ⌜ r ≡ entryVerdict m n (now (list .entry)) t ⌝ }
 {
     let place = long16(t);
-    if is_off(m, n, list, t) {
-        return Verdict::Refused(Word::OffMatrix, place);
-    }
-    if is_rising(list, t) {
-        return Verdict::Accepted;
-    }
-    Verdict::Refused(Word::Order, place)
+    let split = refuse_if(is_split(list, t), Word::SplitNumber, place);
+    let off = refuse_if(is_off(m, n, list, t), Word::OffMatrix, place);
+    let order = refuse_unless(is_rising(list, t), Word::Order, place);
+    let first = and_then(split, off);
+    and_then(first, order)
 }
 
 // The checks of the first nonzeros, in number order.
@@ -111,7 +143,7 @@ fn entries_verdict(m: u64, n: u64, list: &[u8], nonzeros: u16) -> Verdict
     Verdict::Accepted
 }
 
-// The checks of a list: 4, 9, then per nonzero 5, 10.
+// The checks of a list: 4, 9, then per nonzero 17, 5, 10.
 pub fn list_verdict(m: u64, n: u64, nonzeros: u64, list: &[u8]) -> Verdict
     ensures verdict { λ r. ⌜ r ≡ listVerdict m n nonzeros (now (list .entry)) ⌝ }
     ensures reply { λ r. ⌜ verdictReply r ≡ listReplies m n nonzeros (now (list .entry)) ⌝ }
@@ -119,7 +151,7 @@ pub fn list_verdict(m: u64, n: u64, nonzeros: u64, list: &[u8]) -> Verdict
     let sizes = sizes_verdict(m, n, nonzeros);
     match sizes {
         Verdict::Accepted => {
-            if list.len() < 2 * (nonzeros as usize) {
+            if list.len() < 4 * (nonzeros as usize) {
                 return Verdict::Refused(Word::ShortBuffer, 0);
             }
             entries_verdict(m, n, list, nonzeros as u16)

@@ -6,6 +6,7 @@ pub mod checks;
 pub mod measures;
 pub mod reading;
 pub mod refusals;
+pub mod room;
 pub mod splits;
 
 // A volume or a load, or a refusal.

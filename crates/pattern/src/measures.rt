@@ -71,7 +71,7 @@ pub fn volume(m: u64, n: u64, nonzeros: u64, list: &[u8], parts: &[u8]) -> Measu
     let verdict = measure_verdict(m, n, nonzeros, list, parts);
     match verdict {
         Verdict::Accepted => {
-            let value = volume_of(m as u8, n as u8, nonzeros as u16, list, parts);
+            let value = volume_of(m as u16, n as u16, nonzeros as u16, list, parts);
             Measured::Value(value)
         }
         Verdict::Refused(word, place) => Measured::Refused(word, place),

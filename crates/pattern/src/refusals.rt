@@ -24,5 +24,6 @@ pub fn refusal_number(word: Word) -> u64
         Word::State => 14,
         Word::NotSquare => 15,
         Word::AboveDiagonal => 16,
+        Word::SplitNumber => 17,
     }
 }

@@ -13,24 +13,25 @@ use Rattle.counting.specs.Tests.{_and_, _or_}
 use Rattle.counting.proofs.Joined.{and-left, and-right, or-cases, or-fails-left, or-fails-right}
 use Rattle.model.specs.declared.Word.the-variants.{BadPart, ShortBuffer}
 use Rattle.model.specs.declared.Verdict.the-variants.{Accepted}
-use Rattle.model.specs.Pattern.{rowIn, columnIn}
+use Rattle.model.specs.Limits.{lineLimit, nonzeroLimit}
+use Rattle.model.specs.Pattern.{entryBytes, rowIn, columnIn}
 use Rattle.model.specs.Calls.{sizesVerdict, rises, entryVerdict}
 use Rattle.pattern.specs.Measures.{partVerdict}
 use Rattle.model.proofs.Theorems.Checks.{then-first, rows-range, columns-range, nonzeros-small, then-second, refuse-not, each-accepted, entry-row, entry-column, entry-rises}
 use Rattle.writing.specs.Writing.{nonzeroVerdict, writeVerdict}
 use Rattle.readback.proofs.Rising.{Rising}
 
--- the cell of nonzero t in a table with 120 cells for each row
+-- the cell of nonzero t in a table with lineLimit cells for each row
 abbrev pub cellIn : List ℕ → ℕ → ℕ
-cellIn list t = 120 * rowIn list t + columnIn list t
+cellIn list t = lineLimit * rowIn list t + columnIn list t
 
 -- a split that the writer accepts
 pub record Fine (m n nonzeros : ℕ) (list parts : List ℕ) : Type 0 where
   pub sizes : sizesVerdict m n nonzeros ≡ Accepted
-  pub rows : m ≤ 120
-  pub columns : n ≤ 120
-  pub few : nonzeros ≤ 2000
-  pub list-room : 2 * nonzeros ≤ length list
+  pub rows : m ≤ lineLimit
+  pub columns : n ≤ lineLimit
+  pub few : nonzeros ≤ nonzeroLimit
+  pub list-room : entryBytes * nonzeros ≤ length list
   pub parts-room : nonzeros ≤ length parts
   pub row-in : (t : ℕ) → t < nonzeros → rowIn list t < m
   pub column-in : (t : ℕ) → t < nonzeros → columnIn list t < n
@@ -39,7 +40,7 @@ pub record Fine (m n nonzeros : ℕ) (list parts : List ℕ) : Type 0 where
 
 -- a nonzero that comes after another has a later cell
 later-cell :
-    (list : List ℕ) (n t : ℕ) → n ≤ 120 → columnIn list t < n → rises list (suc t) ≡ true → cellIn list t < cellIn list (suc t)
+    (list : List ℕ) (n t : ℕ) → n ≤ lineLimit → columnIn list t < n → rises list (suc t) ≡ true → cellIn list t < cellIn list (suc t)
 unfolding rises
 later-cell list n t b c h =
     let same = eqb (rowIn list t) (rowIn list (suc t)) in
@@ -54,7 +55,7 @@ module _ (m n nonzeros : ℕ) (list parts : List ℕ) (accepted : writeVerdict m
   unfolding writeVerdict
   sizes-fine = then-first _ _ accepted
 
-  rooms : ltb (length list) (2 * nonzeros) or ltb (length parts) nonzeros ≡ false
+  rooms : ltb (length list) (entryBytes * nonzeros) or ltb (length parts) nonzeros ≡ false
   unfolding writeVerdict
   rooms = refuse-not _ ShortBuffer 0 (then-first _ _ (then-second _ _ accepted))
 
@@ -77,8 +78,8 @@ module _ (m n nonzeros : ℕ) (list parts : List ℕ) (accepted : writeVerdict m
         rows = rows-range m n nonzeros sizes-fine .1;
         columns = columns-range m n nonzeros sizes-fine .1;
         few = nonzeros-small m n nonzeros sizes-fine;
-        list-room = ltb-false (length list) (2 * nonzeros) (or-fails-left _ (ltb (length parts) nonzeros) rooms);
-        parts-room = ltb-false (length parts) nonzeros (or-fails-right (ltb (length list) (2 * nonzeros)) _ rooms);
+        list-room = ltb-false (length list) (entryBytes * nonzeros) (or-fails-left _ (ltb (length parts) nonzeros) rooms);
+        parts-room = ltb-false (length parts) nonzeros (or-fails-right (ltb (length list) (entryBytes * nonzeros)) _ rooms);
         row-in = λ t l. entry-row m n list t (entry-accepted t l);
         column-in = λ t l. entry-column m n list t (entry-accepted t l);
         part-in = λ t l. ltb-false 1 (getD parts t 0) (part-fails t l);

@@ -17,6 +17,7 @@ use Rattle.counting.proofs.Summed.{sum-none}
 use Rattle.model.specs.declared.Word.the-variants.{Count}
 use Rattle.model.specs.declared.Verdict.{Verdict}
 use Rattle.model.specs.declared.Verdict.the-variants.{Accepted, Refused}
+use Rattle.model.specs.Limits.{lineLimit}
 use Rattle.model.proofs.Theorems.Checks.{refuse-not, then-first, then-second}
 use Rattle.scanning.specs.Lines.{emptyLine}
 use Rattle.scanning.proofs.Scans.{next-after}
@@ -62,7 +63,7 @@ pub record AllNoted (text cells : List ℕ) : Type 0 where
   pub sized : size + count (isAlone text) lines ≡ 2 * headerOf text .entries
 
 module _
-    (text : List ℕ) (rows : headerOf text .m ≤ 120) (columns : headerOf text .n ≤ 120)
+    (text : List ℕ) (rows : headerOf text .m ≤ lineLimit) (columns : headerOf text .n ≤ lineLimit)
     (square : headerOf text .symmetric ≡ true → headerOf text .m ≡ headerOf text .n) where
   abbrev h : Header
   h = headerOf text

@@ -14,6 +14,8 @@ use Rattle.counting.proofs.Joined.{by-test, and-other, or-fails, or-fails-left,
 use Rattle.model.specs.declared.Word.the-variants.{ShortBuffer}
 use Rattle.model.specs.declared.Verdict.{Verdict}
 use Rattle.model.specs.declared.Verdict.the-variants.{Accepted, Refused}
+use Rattle.model.specs.Limits.{lineLimit}
+use Rattle.model.specs.Pattern.{entryBytes}
 use Rattle.model.specs.Calls.{sizesVerdict, listVerdict}
 use Rattle.pattern.specs.Measures.{partVerdict, partsVerdict}
 use Rattle.model.proofs.Theorems.Checks.{refuse-no, then-accepted, then-first, then-second, refuse-not, each-fine, each-accepted}
@@ -24,8 +26,9 @@ use Rattle.texts.specs.Header.{headerOf, short, roomVerdict, headVerdict}
 use Rattle.texts.specs.Reading.{listed, parted, entriesBelow, nonzerosIn, answerRead, textVerdict, belowVerdict, readVerdict, cellsOf, readCall, readList, readParts}
 use Rattle.texts.proofs.Answers.{room-sizes, room-enough, head-square, head-room, head-lines, opened-symmetric, parts-integer, list-read, parts-read}
 use Rattle.writing.specs.Writing.{nonzeroVerdict, writeVerdict}
+use Rattle.readback.specs.Reads.{Bytes}
 use Rattle.readback.specs.TextSays.{onDiagonal}
-use Rattle.readback.proofs.Given.{GivesList, GivesParts, listed-length, parted-length, gives-listed, gives-parted}
+use Rattle.readback.proofs.Given.{GivesList, GivesParts, listed-length, parted-length, gives-listed, listed-bytes, gives-parted}
 use Rattle.readback.proofs.Entered.{Entered}
 use Rattle.readback.proofs.AllNoted.{AllNoted, all-noted}
 use Rattle.readback.proofs.Opened.{general-size, symmetric-size}
@@ -43,7 +46,7 @@ module _ (text list parts : List ℕ) (accepted : readVerdict text list parts �
   unfolding readVerdict
   below-fine = then-second _ _ accepted
 
-  pub lines : (h .m ≤ 120) × (h .n ≤ 120)
+  pub lines : (h .m ≤ lineLimit) × (h .n ≤ lineLimit)
   lines = head-lines h (length text) (length list) (length parts) head-fine
 
   pub square : h .symmetric ≡ true → h .m ≡ h .n
@@ -83,41 +86,46 @@ module _ (text list parts : List ℕ) (accepted : readVerdict text list parts �
   pub sizes : sizesVerdict (h .m) (h .n) size ≡ Accepted
   sizes = room-sizes h size (length list) (length parts) room-fine
 
-  rooms : ltb (length list) (2 * size) or (isInteger (h .field) and ltb (length parts) size) ≡ false
+  rooms : ltb (length list) (entryBytes * size) or (isInteger (h .field) and ltb (length parts) size) ≡ false
   unfolding short
   rooms = room-enough h size (length list) (length parts) room-fine
 
-  list-room : 2 * size ≤ length list
-  list-room = ltb-false (length list) (2 * size) (or-fails-left _ (isInteger (h .field) and ltb (length parts) size) rooms)
+  list-room : entryBytes * size ≤ length list
+  list-room = ltb-false (length list) (entryBytes * size) (or-fails-left _ (isInteger (h .field) and ltb (length parts) size) rooms)
 
   parts-room : isInteger (h .field) ≡ true → size ≤ length parts
   parts-room i =
       ltb-false
       (length parts)
       size
-      (and-other (isInteger (h .field)) (ltb (length parts) size) (or-fails-right (ltb (length list) (2 * size)) _ rooms) i)
+      (and-other (isInteger (h .field)) (ltb (length parts) size) (or-fails-right (ltb (length list) (entryBytes * size)) _ rooms) i)
 
-  pub list-is : listed (cellsOf text) (120 * h .m) list ≡ readList text list parts
+  pub list-is : listed (cellsOf text) (lineLimit * h .m) list ≡ readList text list parts
   unfolding readList
   list-is = list-read h (readVerdict text list parts) (readVerdict text list parts) refl accepted (cellsOf text) (cellsOf text) list _ refl refl
 
-  pub parts-are : isInteger (h .field) ≡ true → parted (cellsOf text) (120 * h .m) parts ≡ readParts text list parts
+  pub parts-are : isInteger (h .field) ≡ true → parted (cellsOf text) (lineLimit * h .m) parts ≡ readParts text list parts
   unfolding readParts
   parts-are i =
       parts-read h (readVerdict text list parts) (readVerdict text list parts) refl accepted (cellsOf text) (cellsOf text) parts _ refl
-      (parts-integer h (cellsOf text) parts (parted (cellsOf text) (120 * h .m) parts) (h .m) i refl refl)
+      (parts-integer h (cellsOf text) parts (parted (cellsOf text) (lineLimit * h .m) parts) (h .m) i refl refl)
 
-  pub gives-list : GivesList (cellsOf text) (120 * h .m) (readList text list parts)
-  gives-list = rw list-is at (gives-listed (cellsOf text) list (120 * h .m) (omega (arith, entered .total, list-room)))
+  pub gives-list : GivesList (cellsOf text) (lineLimit * h .m) (readList text list parts)
+  gives-list = rw list-is at (gives-listed (cellsOf text) list (lineLimit * h .m) (omega (arith, entered .total, list-room)))
 
-  pub gives-parts : isInteger (h .field) ≡ true → GivesParts (cellsOf text) (120 * h .m) (readParts text list parts)
-  gives-parts i = rw (parts-are i) at (gives-parted (cellsOf text) parts (120 * h .m) (omega (arith, entered .total, parts-room i)))
+  list-bytes : Bytes (readList text list parts) (entryBytes * size)
+  list-bytes =
+      let all-there = entered .total in
+      rw list-is at (rw all-there at (listed-bytes (cellsOf text) list (lineLimit * h .m) (omega (arith, lines .0)) (omega (arith, list-room))))
 
-  list-length : 2 * size ≤ length (readList text list parts)
-  list-length = omega (arith, ap length list-is, listed-length (cellsOf text) list (120 * h .m), list-room)
+  pub gives-parts : isInteger (h .field) ≡ true → GivesParts (cellsOf text) (lineLimit * h .m) (readParts text list parts)
+  gives-parts i = rw (parts-are i) at (gives-parted (cellsOf text) parts (lineLimit * h .m) (omega (arith, entered .total, parts-room i)))
+
+  list-length : entryBytes * size ≤ length (readList text list parts)
+  list-length = omega (arith, ap length list-is, listed-length (cellsOf text) list (lineLimit * h .m), list-room)
 
   parts-length : isInteger (h .field) ≡ true → size ≤ length (readParts text list parts)
-  parts-length i = omega (arith, ap length (parts-are i), parted-length (cellsOf text) parts (120 * h .m), parts-room i)
+  parts-length i = omega (arith, ap length (parts-are i), parted-length (cellsOf text) parts (lineLimit * h .m), parts-room i)
 
   list-accepted : listVerdict (h .m) (h .n) size (readList text list parts) ≡ Accepted
   list-accepted = list-fine entered gives-list sizes list-length
@@ -136,12 +144,12 @@ module _ (text list parts : List ℕ) (accepted : readVerdict text list parts �
       ShortBuffer
       0
       (or-fails
-      (le-ltb (length (readList text list parts)) (2 * size) list-length)
+      (le-ltb (length (readList text list parts)) (entryBytes * size) list-length)
       (refuse-not (ltb (length given) size) ShortBuffer 0 (then-first _ _ fine))))
       ∙ each-fine
       (nonzeroVerdict (h .m) (h .n) (readList text list parts) given)
       size
-      (λ t l. then-accepted _ (entry-accepted entered gives-list t l) ∙ each-accepted (partVerdict given) size t (then-second _ _ fine) l)
+      (λ t l. then-accepted _ (entry-accepted entered gives-list (lines .0) t l) ∙ each-accepted (partVerdict given) size t (then-second _ _ fine) l)
 
 -- what an answer tells of the verdict and the header
 pub record Answered (v : Verdict) (h : Header) (size m n nonzeros : ℕ) (integer : Bool) : Type 0 where
@@ -171,6 +179,12 @@ module _ (text list parts : List ℕ) (m n nonzeros : ℕ) (integer : Bool) (e :
   read-list-fine =
       let a = answered text list parts e in
       rw (sym (a .m-is), sym (a .n-is), sym (a .nonzeros-are)) (list-accepted text list parts (a .accepted))
+
+  -- its numbers are bytes, whatever stood in the slice
+  pub read-bytes : Bytes (readList text list parts) (entryBytes * nonzeros)
+  read-bytes =
+      let a = answered text list parts e in
+      rw (sym (a .nonzeros-are)) (list-bytes text list parts (a .accepted))
 
   pub read-parts-fine : integer ≡ true → partsVerdict nonzeros (readParts text list parts) ≡ Accepted
   read-parts-fine i =

@@ -14,16 +14,17 @@ use Rattle.counting.specs.Tests.{pick}
 use Rattle.counting.specs.Sums.{count}
 use Rattle.counting.proofs.Joined.{by-test, clash, pick-true, pick-false}
 use Rattle.counting.proofs.Counted.{count-none}
-use Rattle.texts.specs.Entries.{noCells, isGiven}
+use Rattle.model.specs.Limits.{lineLimit}
+use Rattle.texts.specs.Entries.{cellRoom, noCells, isGiven}
 use Rattle.counting.proofs.Passed.{count-added}
 use Rattle.readback.proofs.Table.{none-length, none-there, given-mark, not-given, cell-row, cell-column, mark-again}
 
 -- a cell of an m by n matrix
 pub record CellIn (m n p : ℕ) : Type 0 where
-  pub row : p / 120 < m
-  pub column : p % 120 < n
+  pub row : p / lineLimit < m
+  pub column : p % lineLimit < n
 
-pub cell-in : (m n i j : ℕ) → n ≤ 120 → i < m → j < n → CellIn m n (120 * i + j)
+pub cell-in : (m n i j : ℕ) → n ≤ lineLimit → i < m → j < n → CellIn m n (lineLimit * i + j)
 cell-in m n i j columns row column =
     record {
       row = omega (arith, cell-row i j (omega arith));
@@ -31,15 +32,15 @@ cell-in m n i j columns row column =
     }
 
 -- it comes before the rows past the last
-pub cell-before : {m n p : ℕ} → CellIn m n p → p < 120 * m
-cell-before {m} {n} {p} c = omega (arith, c .row, div-add-mod' p 120, mod-lt p {m = 120} (omega arith))
+pub cell-before : {m n p : ℕ} → CellIn m n p → p < lineLimit * m
+cell-before {m} {n} {p} c = omega (arith, c .row, div-add-mod' p lineLimit, mod-lt p {m = lineLimit} (omega arith))
 
 -- so many cells of an m by n matrix are given, each with mark 1 or 2
 pub record Entered (m n : ℕ) (cells : List ℕ) (size : ℕ) : Type 0 where
-  pub whole : length cells ≡ 14_400
+  pub whole : length cells ≡ cellRoom
   pub inside : (p : ℕ) → isGiven cells p ≡ true → CellIn m n p
   pub mark-in : (p : ℕ) → getD cells p 0 ≤ 2
-  pub total : count (isGiven cells) (120 * m) ≡ size
+  pub total : count (isGiven cells) (lineLimit * m) ≡ size
 
 none-given : (p : ℕ) → isGiven noCells p ≡ false
 none-given p = not-given noCells p (none-there p)
@@ -50,12 +51,12 @@ entered-none m n =
       whole = none-length;
       inside = λ p e. clash e (none-given p);
       mark-in = λ p. omega (arith, none-there p);
-      total = count-none (isGiven noCells) (120 * m) (λ p b. none-given p);
+      total = count-none (isGiven noCells) (lineLimit * m) (λ p b. none-given p);
     }
 
 -- one cell more
 module _
-    {m n : ℕ} {cells : List ℕ} {size : ℕ} (e : Entered m n cells size) (p mark : ℕ) (rows : m ≤ 120)
+    {m n : ℕ} {cells : List ℕ} {size : ℕ} (e : Entered m n cells size) (p mark : ℕ) (rows : m ≤ lineLimit)
     (in-matrix : CellIn m n p) (free : isGiven cells p ≡ false) (some : 1 ≤ mark) (few : mark ≤ 2) where
   abbrev new : List ℕ
   new = set cells p mark
@@ -85,7 +86,7 @@ module _
             count-added
             (isGiven cells)
             (isGiven new)
-            (120 * m)
+            (lineLimit * m)
             p
             elsewhere
             (cell-before in-matrix)
@@ -96,7 +97,7 @@ module _
 
 -- an entry more: its own cell and the other, which may be the same
 pub entered-more :
-    {m n : ℕ} {cells : List ℕ} {size : ℕ} → Entered m n cells size → (p q mark : ℕ) → m ≤ 120 → CellIn m n p → CellIn m n q →
+    {m n : ℕ} {cells : List ℕ} {size : ℕ} → Entered m n cells size → (p q mark : ℕ) → m ≤ lineLimit → CellIn m n p → CellIn m n q →
     isGiven cells p ≡ false → isGiven cells q ≡ false → 1 ≤ mark → mark ≤ 2 →
     Entered m n (set (set cells p mark) q mark) (size + pick (eqb q p) 1 2)
 entered-more {m} {n} {cells} {size} e p q mark rows p-in q-in p-free q-free some few =

@@ -5,22 +5,28 @@ use mathlib.Core.List.{List}
 use mathlib.Core.Path.{_≡_, refl, sym, _∙_, ap}
 use mathlib.Core.Logic.{⊎-elim}
 use Prim.Native.Nat.{ℕ, zero, suc, _+_, _-_, _*_, _/_, _%_, _≤_, _<_}
-use native.Mathlib.Nat.{eq-or-lt-of-le, le-of-suc-le-suc, div-add-mod', mod-lt}
+use native.Mathlib.Nat.{eq-or-lt-of-le, le-of-suc-le-suc, mod-lt}
 use native.Mathlib.Omega.{arith}
-use lib.Dec.{eqb}
+use lib.Dec.{ltb}
 use lib.ListN.{length, getD, set, length-set}
 use lib.Seq.{getD-set-same, getD-set-other}
-use borrow.Author.Tests.{eqb-true, eqb-false}
+use borrow.Author.Tests.{ltb-true, ltb-false}
+use Rattle.counting.specs.Tests.{bit}
 use Rattle.counting.specs.Sums.{count}
 use Rattle.counting.proofs.Joined.{no-way, by-test, clash, pick-true, pick-false}
-use Rattle.texts.specs.Entries.{isGiven}
-use Rattle.texts.specs.Reading.{listCell, partCell, listed, parted}
+use Rattle.counting.proofs.Summed.{sum-none}
 use Rattle.counting.proofs.Passed.{count-passed, count-failed, count-later, passed}
+use Rattle.model.specs.Limits.{lineLimit}
+use Rattle.model.specs.Pattern.{entryBytes, rowIn, columnIn, withEntry}
+use Rattle.pattern.proofs.Numbers.{entry-length, entry-rest, row-set, row-other, column-set, column-other, entry-small, same-entries}
+use Rattle.texts.specs.Entries.{cellRoom, isGiven}
+use Rattle.texts.specs.Reading.{listCell, partCell, listed, parted}
+use Rattle.readback.specs.Reads.{Bytes}
 
 -- the first `top` cells give the nonzeros of a list, in its order
 pub record GivesList (cells : List ℕ) (top : ℕ) (list : List ℕ) : Type 0 where
-  pub row : (p : ℕ) → p < top → isGiven cells p ≡ true → getD list (2 * count (isGiven cells) p) 0 ≡ p / 120
-  pub column : (p : ℕ) → p < top → isGiven cells p ≡ true → getD list (2 * count (isGiven cells) p + 1) 0 ≡ p % 120
+  pub row : (p : ℕ) → p < top → isGiven cells p ≡ true → rowIn list (count (isGiven cells) p) ≡ p / lineLimit
+  pub column : (p : ℕ) → p < top → isGiven cells p ≡ true → columnIn list (count (isGiven cells) p) ≡ p % lineLimit
 
 -- they give the parts of the same nonzeros
 pub record GivesParts (cells : List ℕ) (top : ℕ) (parts : List ℕ) : Type 0 where
@@ -33,7 +39,7 @@ module _ (cells old : List ℕ) where
   -- one cell more
   list-given :
       (p : ℕ) → isGiven cells p ≡ true →
-      listed cells (suc p) old ≡ set (set (listed cells p old) (2 * before p) (p / 120)) (2 * before p + 1) (p % 120)
+      listed cells (suc p) old ≡ withEntry (before p) (p / lineLimit) (p % lineLimit) (listed cells p old)
   unfolding listed listCell
   list-given p e = pick-true _ (listed cells p old) e
 
@@ -57,7 +63,7 @@ module _ (cells old : List ℕ) where
   listed-length (suc p) =
       by-test
       (isGiven cells p)
-      (λ e. ap length (list-given p e) ∙ simp length-set (listed-length p))
+      (λ e. ap length (list-given p e) ∙ entry-length (listed cells p old) (before p) (p / lineLimit) (p % lineLimit) ∙ listed-length p)
       (λ e. ap length (list-kept p e) ∙ listed-length p)
 
   pub parted-length : (p : ℕ) → length (parted cells p old) ≡ length old
@@ -70,7 +76,7 @@ module _ (cells old : List ℕ) where
       (λ e. ap length (part-kept p e) ∙ parted-length p)
 
   -- the bytes past the nonzeros stay
-  pub listed-rest : (p i : ℕ) → 2 * before p ≤ i → getD (listed cells p old) i 0 ≡ getD old i 0
+  pub listed-rest : (p i : ℕ) → entryBytes * before p ≤ i → getD (listed cells p old) i 0 ≡ getD old i 0
   unfolding listed
   listed-rest zero i l = refl
   listed-rest (suc p) i l =
@@ -78,8 +84,7 @@ module _ (cells old : List ℕ) where
       (isGiven cells p)
       (λ e. let c = count-passed (isGiven cells) p e in
       ap (λ x. getD x i 0) (list-given p e)
-      ∙ getD-set-other (set (listed cells p old) (2 * before p) (p / 120)) (2 * before p + 1) i (p % 120) 0 (λ q. omega arith)
-      ∙ getD-set-other (listed cells p old) (2 * before p) i (p / 120) 0 (λ q. omega arith)
+      ∙ entry-rest (listed cells p old) (before p) (p / lineLimit) (p % lineLimit) i (λ k b q. omega arith)
       ∙ listed-rest p i (omega arith))
       (λ e. ap (λ x. getD x i 0) (list-kept p e) ∙ listed-rest p i (omega (arith, count-failed (isGiven cells) p e)))
 
@@ -95,38 +100,30 @@ module _ (cells old : List ℕ) where
       ∙ parted-rest p i (omega arith))
       (λ e. ap (λ x. getD x i 0) (part-kept p e) ∙ parted-rest p i (omega (arith, count-failed (isGiven cells) p e)))
 
-  -- the bytes of the nonzeros are those that the cells give
-  pub gives-listed : (p : ℕ) → 2 * before p ≤ length old → GivesList cells p (listed cells p old)
+  -- the nonzeros are those that the cells give
+  pub gives-listed : (p : ℕ) → entryBytes * before p ≤ length old → GivesList cells p (listed cells p old)
   gives-listed zero r = record { row = λ q l e. no-way (omega arith); column = λ q l e. no-way (omega arith) }
   gives-listed (suc p) r =
       by-test
       (isGiven cells p)
       (λ e. let c = count-passed (isGiven cells) p e in
       let last = listed cells p old in
-      let with-row = set last (2 * before p) (p / 120) in
-      let size = listed-length p in
-      let row-size : length with-row ≡ length old = length-set last (2 * before p) (p / 120) ∙ size in
+      let room : entryBytes * before p + entryBytes ≤ length last = omega (arith, listed-length p) in
       let g = gives-listed p (omega arith) in
       rw
       (list-given p e)
       (record {
         row =
             λ q l d. ⊎-elim
-            (λ z. rw z
-            (getD-set-other with-row (2 * before p + 1) (2 * before p) (p % 120) 0 (λ y. omega arith)
-            ∙ getD-set-same last (2 * before p) (p / 120) 0 (omega arith)))
+            (λ z. rw z (row-set last (before p) (p / lineLimit) (p % lineLimit) room))
             (λ k. let b = count-later (isGiven cells) q p d k in
-            getD-set-other with-row (2 * before p + 1) (2 * before q) (p % 120) 0 (λ y. omega arith)
-            ∙ getD-set-other last (2 * before p) (2 * before q) (p / 120) 0 (λ y. omega arith)
-            ∙ g .row q k d)
+            row-other last (before p) (p / lineLimit) (p % lineLimit) (before q) (λ y. omega arith) ∙ g .row q k d)
             (eq-or-lt-of-le (le-of-suc-le-suc l));
         column =
             λ q l d. ⊎-elim
-            (λ z. rw z (getD-set-same with-row (2 * before p + 1) (p % 120) 0 (omega arith)))
+            (λ z. rw z (column-set last (before p) (p / lineLimit) (p % lineLimit) room))
             (λ k. let b = count-later (isGiven cells) q p d k in
-            getD-set-other with-row (2 * before p + 1) (2 * before q + 1) (p % 120) 0 (λ y. omega arith)
-            ∙ getD-set-other last (2 * before p) (2 * before q + 1) (p / 120) 0 (λ y. omega arith)
-            ∙ g .column q k d)
+            column-other last (before p) (p / lineLimit) (p % lineLimit) (before q) (λ y. omega arith) ∙ g .column q k d)
             (eq-or-lt-of-le (le-of-suc-le-suc l));
       }))
       (λ e. let g = gives-listed p (omega (arith, count-failed (isGiven cells) p e)) in
@@ -144,6 +141,33 @@ module _ (cells old : List ℕ) where
             (λ k. g .column q k d)
             (eq-or-lt-of-le (le-of-suc-le-suc l));
       }))
+
+  -- and their numbers are bytes
+  pub listed-bytes :
+      (p : ℕ) → p ≤ cellRoom → entryBytes * before p ≤ length old → Bytes (listed cells p old) (entryBytes * before p)
+  listed-bytes zero few r = record { byte = λ i l. no-way (omega (arith, sum-none (λ q. bit (isGiven cells q)))) }
+  listed-bytes (suc p) few r =
+      by-test
+      (isGiven cells p)
+      (λ e. let c = count-passed (isGiven cells) p e in
+      let last = listed cells p old in
+      let size = listed-length p in
+      let column-small = mod-lt p {m = lineLimit} (omega arith) in
+      let g = listed-bytes p (omega arith) (omega arith) in
+      rw
+      (list-given p e)
+      (record {
+        byte =
+            λ i l. by-test
+            (ltb i (entryBytes * before p))
+            (λ z. let b = ltb-true i (entryBytes * before p) z in
+            omega
+            (arith, entry-rest last (before p) (p / lineLimit) (p % lineLimit) i (λ k f q. omega arith), g .byte i b))
+            (λ z. entry-small last (before p) (p / lineLimit) (p % lineLimit) (omega arith) (omega arith) (omega arith) i (ltb-false i (entryBytes * before p) z) (omega arith));
+      }))
+      (λ e. let c = count-failed (isGiven cells) p e in
+      let g = listed-bytes p (omega arith) (omega arith) in
+      rw (list-kept p e) (record { byte = λ i l. g .byte i (omega arith) }))
 
   pub gives-parted : (p : ℕ) → before p ≤ length old → GivesParts cells p (parted cells p old)
   gives-parted zero r = record { part = λ q l e. no-way (omega arith) }
@@ -175,23 +199,24 @@ module _ (cells old : List ℕ) where
             (eq-or-lt-of-le (le-of-suc-le-suc l));
       }))
 
--- two lists that the same cells give have the same bytes, and so have two lists of parts
+-- two lists of bytes that the same cells give have the same bytes, and so have two lists of parts
 module _ (cells : List ℕ) (top : ℕ) where
   pub same-list :
-      (a b : List ℕ) → GivesList cells top a → GivesList cells top b → (i : ℕ) → i < 2 * count (isGiven cells) top → getD a i 0 ≡ getD b i 0
-  same-list a b g h i l =
-      let d = div-add-mod' i 2 in
-      let s = mod-lt i {m = 2} (omega arith) in
-      let w = passed (isGiven cells) top (i / 2) (omega arith) in
+      (a b : List ℕ) → GivesList cells top a → GivesList cells top b →
+      Bytes a (entryBytes * count (isGiven cells) top) → Bytes b (entryBytes * count (isGiven cells) top) →
+      (i : ℕ) → i < entryBytes * count (isGiven cells) top → getD a i 0 ≡ getD b i 0
+  same-list a b g h a-bytes b-bytes =
+      same-entries
+      a
+      b
+      (count (isGiven cells) top)
+      (a-bytes .byte)
+      (b-bytes .byte)
+      (λ t l. let w = passed (isGiven cells) top t l in
       let p = w .0 in
-      by-test
-      (eqb (i % 2) 0)
-      (λ z. let even = eqb-true (i % 2) 0 z in
-      let e : i ≡ 2 * count (isGiven cells) p = omega (arith, w .3) in
-      rw e (g .row p (w .1) (w .2) ∙ sym (h .row p (w .1) (w .2))))
-      (λ z. let odd = eqb-false (i % 2) 0 z in
-      let e : i ≡ 2 * count (isGiven cells) p + 1 = omega (arith, w .3) in
-      rw e (g .column p (w .1) (w .2) ∙ sym (h .column p (w .1) (w .2))))
+      rw
+      (sym (w .3))
+      (g .row p (w .1) (w .2) ∙ sym (h .row p (w .1) (w .2)), g .column p (w .1) (w .2) ∙ sym (h .column p (w .1) (w .2))))
 
   pub same-parts :
       (a b : List ℕ) → GivesParts cells top a → GivesParts cells top b → (i : ℕ) → i < count (isGiven cells) top → getD a i 0 ≡ getD b i 0

@@ -7,6 +7,7 @@ use mathlib.Core.Logic.{⊎-elim, inl, inr, _⊎_}
 use Prim.Native.Nat.{ℕ, _+_, _-_, _*_, _/_, _%_, _≤_}
 use native.Mathlib.Omega.{arith}
 use Rattle.counting.proofs.Joined.{by-test}
+use Rattle.model.specs.Limits.{lineLimit}
 use Rattle.texts.specs.declared.Header.{Header}
 use Rattle.texts.specs.Header.{headerOf}
 use Rattle.texts.specs.Entries.{cellOf, cellMark, mirrorOf}
@@ -30,30 +31,30 @@ abbrev pub Own : List ℕ → ℕ → ℕ → Type 0
 Own text k p = (cellBelow text k ≡ p) ⊎ (mirrorBelow text k ≡ p)
 
 -- row and column of a cell, counted from 1
-module _ (i j : ℕ) (i-from : 1 ≤ i) (j-from : 1 ≤ j) (j-to : j ≤ 120) where
-  row-of : cellOf i j / 120 + 1 ≡ i
+module _ (i j : ℕ) (i-from : 1 ≤ i) (j-from : 1 ≤ j) (j-to : j ≤ lineLimit) where
+  row-of : cellOf i j / lineLimit + 1 ≡ i
   unfolding cellOf
   row-of = omega (arith, cell-row (i - 1) (j - 1) (omega arith))
 
-  column-of : cellOf i j % 120 + 1 ≡ j
+  column-of : cellOf i j % lineLimit + 1 ≡ j
   unfolding cellOf
   column-of = omega (arith, cell-column (i - 1) (j - 1) (omega arith))
 
-module _ (text : List ℕ) (rows : headerOf text .m ≤ 120) (columns : headerOf text .n ≤ 120) where
+module _ (text : List ℕ) (rows : headerOf text .m ≤ lineLimit) (columns : headerOf text .n ≤ lineLimit) where
   abbrev h : Header
   h = headerOf text
 
   -- a line stands for its cells
-  pub own-stands : (k p : ℕ) → InForm text k → Own text k p → StandsFor h (entryBelow text k) (p / 120 + 1) (p % 120 + 1)
+  pub own-stands : (k p : ℕ) → InForm text k → Own text k p → StandsFor h (entryBelow text k) (p / lineLimit + 1) (p % lineLimit + 1)
   own-stands k p f o =
       let i = entryBelow text k .first in
       let j = entryBelow text k .second in
-      let i-to : i ≤ 120 = omega (arith, f .row-to) in
-      let j-to : j ≤ 120 = omega (arith, f .column-to) in
-      let own : cellBelow text k ≡ p → (i ≡ p / 120 + 1) × (j ≡ p % 120 + 1) =
+      let i-to : i ≤ lineLimit = omega (arith, f .row-to) in
+      let j-to : j ≤ lineLimit = omega (arith, f .column-to) in
+      let own : cellBelow text k ≡ p → (i ≡ p / lineLimit + 1) × (j ≡ p % lineLimit + 1) =
       λ e. (
-        sym (row-of i j (f .row-from) (f .column-from) j-to) ∙ ap (λ q. q / 120 + 1) e,
-        sym (column-of i j (f .row-from) (f .column-from) j-to) ∙ ap (λ q. q % 120 + 1) e,
+        sym (row-of i j (f .row-from) (f .column-from) j-to) ∙ ap (λ q. q / lineLimit + 1) e,
+        sym (column-of i j (f .row-from) (f .column-from) j-to) ∙ ap (λ q. q % lineLimit + 1) e,
       ) in
       ⊎-elim
       (λ e. inl (own e))
@@ -62,14 +63,14 @@ module _ (text : List ℕ) (rows : headerOf text .m ≤ 120) (columns : headerOf
       (λ s. let other = sym (mirror-symmetric h (entryBelow text k) s) ∙ e in
       inr (
         s,
-        sym (row-of j i (f .column-from) (f .row-from) i-to) ∙ ap (λ q. q / 120 + 1) other,
-        sym (column-of j i (f .column-from) (f .row-from) i-to) ∙ ap (λ q. q % 120 + 1) other,
+        sym (row-of j i (f .column-from) (f .row-from) i-to) ∙ ap (λ q. q / lineLimit + 1) other,
+        sym (column-of j i (f .column-from) (f .row-from) i-to) ∙ ap (λ q. q % lineLimit + 1) other,
       ))
       (λ s. inl (own (sym (mirror-general h (entryBelow text k) s) ∙ e))))
       o
 
   -- and what it stands for is one of its cells
-  pub stands-own : (k row column : ℕ) → StandsFor h (entryBelow text k) (row + 1) (column + 1) → Own text k (120 * row + column)
+  pub stands-own : (k row column : ℕ) → StandsFor h (entryBelow text k) (row + 1) (column + 1) → Own text k (lineLimit * row + column)
   stands-own k row column s =
       ⊎-elim
       (λ w. inl (ap (λ i. cellOf i (entryBelow text k .second)) (w .0) ∙ ap (cellOf (row + 1)) (w .1) ∙ cell-is row column))

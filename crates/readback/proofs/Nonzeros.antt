@@ -7,6 +7,7 @@ use Prim.Native.Nat.{ℕ, _+_, _*_, _/_, _%_, _<_}
 use native.Mathlib.Omega.{arith}
 use lib.ListN.{getD}
 use Rattle.counting.specs.Sums.{count}
+use Rattle.model.specs.Limits.{lineLimit}
 use Rattle.model.specs.Pattern.{rowIn, columnIn}
 use Rattle.texts.specs.Entries.{isGiven}
 use Rattle.readback.proofs.Rising.{count-before, count-whole}
@@ -19,7 +20,7 @@ module _ {m n nonzeros : ℕ} {list parts : List ℕ} (split : Fine m n nonzeros
   abbrev table : List ℕ
   table = tableOf (cellIn list) (markIn parts) nonzeros
 
-  cell-inside : (t : ℕ) → t < nonzeros → cellIn list t < 120 * m
+  cell-inside : (t : ℕ) → t < nonzeros → cellIn list t < lineLimit * m
   cell-inside t l = omega (arith, split .columns, split .row-in t l, split .column-in t l)
 
   mark-back : (t : ℕ) → t < nonzeros → getD table (cellIn list t) 0 ≡ getD parts t 0 + 1
@@ -38,24 +39,23 @@ module _ {m n nonzeros : ℕ} {list parts : List ℕ} (split : Fine m n nonzeros
       (omega (arith, w .1), w .2 ∙ sym (ap (cellIn list) c))
 
   -- as many are given as there are
-  pub all-given : count (isGiven table) (120 * m) ≡ nonzeros
-  all-given = count-whole (isGiven table) (split .in-order) (table-given (cellIn list) (markIn parts) nonzeros) given (120 * m) cell-inside
+  pub all-given : count (isGiven table) (lineLimit * m) ≡ nonzeros
+  all-given = count-whole (isGiven table) (split .in-order) (table-given (cellIn list) (markIn parts) nonzeros) given (lineLimit * m) cell-inside
 
-  pub gives-list : GivesList table (120 * m) list
-  unfolding rowIn columnIn
+  pub gives-list : GivesList table (lineLimit * m) list
   gives-list =
       record {
         row =
             λ p b e. let w = nonzero-of p e in
             let t = count (isGiven table) p in
-            sym (ap (λ k. k / 120) (w .1) ∙ cell-row (rowIn list t) (columnIn list t) (omega (arith, split .column-in t (w .0), split .columns)));
+            sym (ap (λ k. k / lineLimit) (w .1) ∙ cell-row (rowIn list t) (columnIn list t) (omega (arith, split .column-in t (w .0), split .columns)));
         column =
             λ p b e. let w = nonzero-of p e in
             let t = count (isGiven table) p in
-            sym (ap (λ k. k % 120) (w .1) ∙ cell-column (rowIn list t) (columnIn list t) (omega (arith, split .column-in t (w .0), split .columns)));
+            sym (ap (λ k. k % lineLimit) (w .1) ∙ cell-column (rowIn list t) (columnIn list t) (omega (arith, split .column-in t (w .0), split .columns)));
       }
 
-  pub gives-parts : GivesParts table (120 * m) parts
+  pub gives-parts : GivesParts table (lineLimit * m) parts
   gives-parts =
       record {
         part =

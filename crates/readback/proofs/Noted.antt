@@ -14,6 +14,7 @@ use borrow.Author.Tests.{eqb-true, eqb-false, ltb-false, not-false}
 use Rattle.counting.proofs.Joined.{no-way, by-test, clash, fails, and-other, or-fails-left, or-fails-right}
 use Rattle.model.specs.declared.Word.the-variants.{EntryForm, OffMatrix, Repeated, BadPart, AboveDiagonal}
 use Rattle.model.specs.declared.Verdict.the-variants.{Accepted}
+use Rattle.model.specs.Limits.{lineLimit}
 use Rattle.model.specs.Calls.{outside}
 use Rattle.model.proofs.Theorems.Checks.{then-second, refuse-not, then-first, in-range}
 use Rattle.scanning.specs.declared.Numbers.{Numbers}
@@ -72,7 +73,7 @@ module _ {text : List ℕ} {lines : ℕ} {cells : List ℕ} (read : Noted text l
 
   -- an entry whose own cell was not given before
   module _
-      (rows : headerOf text .m ≤ 120) (columns : headerOf text .n ≤ 120) (form : InForm text lines)
+      (rows : headerOf text .m ≤ lineLimit) (columns : headerOf text .n ≤ lineLimit) (form : InForm text lines)
       (whole : (p : ℕ) → Own text lines p → p < length cells) (free : isGiven cells (cellBelow text lines) ≡ false) where
     abbrev first : List ℕ
     first = set cells (cellBelow text lines) (markBelow text lines)

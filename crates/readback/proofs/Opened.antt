@@ -12,6 +12,7 @@ use Rattle.counting.specs.Tests.{_and_}
 use Rattle.counting.specs.Sums.{count}
 use Rattle.counting.proofs.Joined.{by-test, both-ways, and-left, and-all, and-fails-left}
 use Rattle.counting.proofs.Counted.{count-eq}
+use Rattle.model.specs.Limits.{lineLimit}
 use Rattle.texts.specs.Header.{headerOf}
 use Rattle.texts.specs.Entries.{cellOf}
 use Rattle.texts.proofs.Cells.{mirror-symmetric, mirror-general}
@@ -42,7 +43,7 @@ module _ {text cells : List ℕ} (all : AllNoted text cells) where
       let j = entryBelow text k .second in
       let i-from = f .row-from in
       let j-from = f .column-from in
-      let other : mirrorBelow text k ≡ 120 * (j - 1) + (i - 1) = mirror-symmetric (headerOf text) (entryBelow text k) s in
+      let other : mirrorBelow text k ≡ lineLimit * (j - 1) + (i - 1) = mirror-symmetric (headerOf text) (entryBelow text k) s in
       both-ways
       (eqb (mirrorBelow text k) (cellBelow text k))
       (eqb i j)

@@ -8,6 +8,8 @@ use native.Mathlib.Omega.{arith}
 use lib.ListN.{length, getD}
 use Rattle.model.specs.declared.Verdict.{Verdict}
 use Rattle.model.specs.declared.Verdict.the-variants.{Accepted, Refused}
+use Rattle.model.specs.Limits.{lineLimit}
+use Rattle.model.specs.Pattern.{entryBytes}
 use Rattle.texts.specs.declared.ReadAnswer.the-variants as read-answer
 use Rattle.texts.specs.Header.{headerOf}
 use Rattle.texts.specs.Reading.{outputAfter, partsGiven, readVerdict, cellsOf, readCall, readList, readParts}
@@ -25,11 +27,11 @@ output-same (Refused word place) new old e = refl
 module _ (text list parts : List ℕ) (m n nonzeros : ℕ) (integer : Bool) (e : readCall text list parts ≡ read-answer.Read m n nonzeros integer) where
   pub list-stays :
       (length (readList text list parts) ≡ length list)
-      × ((i : ℕ) → 2 * nonzeros ≤ i → getD (readList text list parts) i 0 ≡ getD list i 0)
+      × ((i : ℕ) → entryBytes * nonzeros ≤ i → getD (readList text list parts) i 0 ≡ getD list i 0)
   list-stays =
       let a = answered text list parts e in
       let table = cellsOf text in
-      let top = 120 * headerOf text .m in
+      let top = lineLimit * headerOf text .m in
       let same = list-is text list parts (a .accepted) in
       let total = entered text list parts (a .accepted) .total in (
         ap length (sym same) ∙ listed-length table list top,
@@ -43,7 +45,7 @@ module _ (text list parts : List ℕ) (m n nonzeros : ℕ) (integer : Bool) (e :
   parts-stay given =
       let a = answered text list parts e in
       let table = cellsOf text in
-      let top = 120 * headerOf text .m in
+      let top = lineLimit * headerOf text .m in
       let same = parts-are text list parts (a .accepted) (a .integer-is ∙ given) in
       let total = entered text list parts (a .accepted) .total in (
         ap length (sym same) ∙ parted-length table parts top,

@@ -11,6 +11,8 @@ use Rattle.counting.specs.Sums.{count}
 use Rattle.counting.proofs.Joined.{or-fails, and-fails-right, pick-false}
 use Rattle.model.specs.declared.Word.the-variants.{Banner, SizeLine, TooBig, ShortBuffer}
 use Rattle.model.specs.declared.Verdict.the-variants.{Accepted}
+use Rattle.model.specs.Limits.{lineLimit}
+use Rattle.model.specs.Pattern.{entryBytes}
 use Rattle.model.proofs.Theorems.Checks.{refuse-no, then-accepted}
 use Rattle.scanning.specs.Checks.{moved}
 use Rattle.texts.specs.declared.Header.{Header}
@@ -25,17 +27,18 @@ use Rattle.writing.specs.Writing.{writeVerdict}
 use Rattle.writing.proofs.Held.{Holds, holds-right}
 use Rattle.writing.proofs.Back.{lineOver, sizes-length}
 use Rattle.writing.proofs.Head.{sizeAt, laidOut, text-laid, text-length, after-comment, header-back}
-use Rattle.readback.specs.Reads.{Filled, ReadsAs}
+use Rattle.readback.specs.Reads.{Bytes, Filled, ReadsAs}
 use Rattle.readback.proofs.Table.{tableOf}
-use Rattle.readback.proofs.Given.{listed-length, listed-rest, parted-length, parted-rest, gives-listed, gives-parted, same-list, same-parts}
+use Rattle.readback.proofs.Given.{listed-length, listed-rest, listed-bytes, parted-length, parted-rest, gives-listed, gives-parted, same-list, same-parts}
 use Rattle.readback.proofs.Accepted.{cellIn, Fine, fine-split}
-use Rattle.readback.proofs.Short.{text-short}
+use Rattle.readback.proofs.Short.{text-fits}
 use Rattle.readback.proofs.Entries.{markIn, headOf, entries-back}
 use Rattle.readback.proofs.Nonzeros.{all-given, gives-list, gives-parts}
 
 module _
-    {m n nonzeros : ℕ} {list parts : List ℕ} (split : Fine m n nonzeros list parts) (f : Figures) (list-slice parts-slice : List ℕ)
-    (list-room : 2 * nonzeros ≤ length list-slice) (parts-room : nonzeros ≤ length parts-slice) where
+    {m n nonzeros : ℕ} {list parts : List ℕ} (split : Fine m n nonzeros list parts) (bytes : Bytes list (entryBytes * nonzeros)) (f : Figures)
+    (list-slice parts-slice : List ℕ)
+    (list-room : entryBytes * nonzeros ≤ length list-slice) (parts-room : nonzeros ≤ length parts-slice) where
   abbrev text : List ℕ
   text = laidOut f m n nonzeros (entriesText list parts nonzeros)
 
@@ -63,7 +66,7 @@ module _
 
   room : short h nonzeros (length list-slice) (length parts-slice) ≡ false
   unfolding short
-  room = or-fails (le-ltb (length list-slice) (2 * nonzeros) list-room) (and-fails-right true (le-ltb (length parts-slice) nonzeros parts-room))
+  room = or-fails (le-ltb (length list-slice) (entryBytes * nonzeros) list-room) (and-fails-right true (le-ltb (length parts-slice) nonzeros parts-room))
 
   sizes-moved : sizeLineVerdict h nonzeros ≡ Accepted
   unfolding sizeLineVerdict moved
@@ -76,7 +79,7 @@ module _
   head-fine : headVerdict h (length text) (length list-slice) (length parts-slice) ≡ Accepted
   unfolding headVerdict
   head-fine =
-      let limit : length text ≤ textLimit = omega (arith, text-short split f, ap length (text-laid m n nonzeros list parts f)) in
+      let limit : length text ≤ textLimit = omega (arith, text-fits split f, ap length (text-laid m n nonzeros list parts f)) in
       then-accepted
       _
       (then-accepted
@@ -109,8 +112,8 @@ module _
 
   below-fine : Accepted ≡ belowVerdict text h (length list-slice) (length parts-slice)
   below-fine =
-      below-is text h noCells refl Accepted Accepted Accepted table (count (isGiven table) (120 * m)) (length list-slice) (length parts-slice) verdict-read cells-read refl
-      (opened-general h (count (isGiven table) (120 * m)) (length list-slice) (length parts-slice) refl)
+      below-is text h noCells refl Accepted Accepted Accepted table (count (isGiven table) (lineLimit * m)) (length list-slice) (length parts-slice) verdict-read cells-read refl
+      (opened-general h (count (isGiven table) (lineLimit * m)) (length list-slice) (length parts-slice) refl)
       (sym (then-accepted Accepted refl))
 
   cells-are-table : table ≡ entriesBelow text h .cells
@@ -124,64 +127,67 @@ module _
       (nonzeros-are text h noCells refl table nonzeros cells-read (sym (all-given split)))
       refl))
 
-  list-is : readList text list-slice parts-slice ≡ listed table (120 * m) list-slice
+  list-is : readList text list-slice parts-slice ≡ listed table (lineLimit * m) list-slice
   list-is =
       sym
-      (read-list-is text list-slice parts-slice h Accepted header (sym head-fine) (listed table (120 * m) list-slice) refl
-      (list-read h Accepted (belowVerdict text h (length list-slice) (length parts-slice)) below-fine refl table (entriesBelow text h .cells) list-slice (listed table (120 * m) list-slice) cells-are-table refl))
+      (read-list-is text list-slice parts-slice h Accepted header (sym head-fine) (listed table (lineLimit * m) list-slice) refl
+      (list-read h Accepted (belowVerdict text h (length list-slice) (length parts-slice)) below-fine refl table (entriesBelow text h .cells) list-slice (listed table (lineLimit * m) list-slice) cells-are-table refl))
 
-  parts-are : readParts text list-slice parts-slice ≡ parted table (120 * m) parts-slice
+  parts-are : readParts text list-slice parts-slice ≡ parted table (lineLimit * m) parts-slice
   parts-are =
       sym
-      (read-parts-is text list-slice parts-slice h Accepted header (sym head-fine) (parted table (120 * m) parts-slice) refl
-      (parts-read h Accepted (belowVerdict text h (length list-slice) (length parts-slice)) below-fine refl table (entriesBelow text h .cells) parts-slice (parted table (120 * m) parts-slice) cells-are-table
-      (parts-integer h table parts-slice (parted table (120 * m) parts-slice) m refl refl refl)))
+      (read-parts-is text list-slice parts-slice h Accepted header (sym head-fine) (parted table (lineLimit * m) parts-slice) refl
+      (parts-read h Accepted (belowVerdict text h (length list-slice) (length parts-slice)) below-fine refl table (entriesBelow text h .cells) parts-slice (parted table (lineLimit * m) parts-slice) cells-are-table
+      (parts-integer h table parts-slice (parted table (lineLimit * m) parts-slice) m refl refl refl)))
 
-  list-filled : Filled (listed table (120 * m) list-slice) list list-slice (2 * nonzeros)
+  list-filled : Filled (listed table (lineLimit * m) list-slice) list list-slice (entryBytes * nonzeros)
   list-filled =
       let all = all-given split in
       record {
-        same-length = listed-length table list-slice (120 * m);
+        same-length = listed-length table list-slice (lineLimit * m);
         first-bytes =
             λ i l. same-list
             table
-            (120 * m)
-            (listed table (120 * m) list-slice)
+            (lineLimit * m)
+            (listed table (lineLimit * m) list-slice)
             list
-            (gives-listed table list-slice (120 * m) (omega arith))
+            (gives-listed table list-slice (lineLimit * m) (omega arith))
             (gives-list split)
+            (listed-bytes table list-slice (lineLimit * m) (omega (arith, split .rows)) (omega arith))
+            (rw all bytes)
             i
             (omega arith);
-        other-bytes = λ i l. listed-rest table list-slice (120 * m) i (omega arith);
+        other-bytes = λ i l. listed-rest table list-slice (lineLimit * m) i (omega arith);
       }
 
-  parts-filled : Filled (parted table (120 * m) parts-slice) parts parts-slice nonzeros
+  parts-filled : Filled (parted table (lineLimit * m) parts-slice) parts parts-slice nonzeros
   parts-filled =
       let all = all-given split in
       record {
-        same-length = parted-length table parts-slice (120 * m);
+        same-length = parted-length table parts-slice (lineLimit * m);
         first-bytes =
             λ i l. same-parts
             table
-            (120 * m)
-            (parted table (120 * m) parts-slice)
+            (lineLimit * m)
+            (parted table (lineLimit * m) parts-slice)
             parts
-            (gives-parted table parts-slice (120 * m) (omega arith))
+            (gives-parted table parts-slice (lineLimit * m) (omega arith))
             (gives-parts split)
             i
             (omega arith);
-        other-bytes = λ i l. parted-rest table parts-slice (120 * m) i (omega arith);
+        other-bytes = λ i l. parted-rest table parts-slice (lineLimit * m) i (omega arith);
       }
 
   laid-back : ReadsAs text m n nonzeros list parts list-slice parts-slice
   laid-back = record { answer = answer-back; list-back = rw list-is list-filled; parts-back = rw parts-are parts-filled }
 
--- for every split that the writer accepts, all figures, and slices with room for it
+-- for every split of bytes that the writer accepts, all figures, and slices with room for it
 pub reads-back :
     (m n nonzeros : ℕ) (list parts : List ℕ) (f : Figures) (list-slice parts-slice : List ℕ) →
-    writeVerdict m n nonzeros list parts ≡ Accepted → 2 * nonzeros ≤ length list-slice → nonzeros ≤ length parts-slice →
+    Bytes list (entryBytes * nonzeros) → writeVerdict m n nonzeros list parts ≡ Accepted →
+    entryBytes * nonzeros ≤ length list-slice → nonzeros ≤ length parts-slice →
     ReadsAs (textOf m n nonzeros list parts f) m n nonzeros list parts list-slice parts-slice
-reads-back m n nonzeros list parts f list-slice parts-slice accepted list-room parts-room =
+reads-back m n nonzeros list parts f list-slice parts-slice bytes accepted list-room parts-room =
     rw
     (text-laid m n nonzeros list parts f)
-    (laid-back (fine-split m n nonzeros list parts accepted) f list-slice parts-slice list-room parts-room)
+    (laid-back (fine-split m n nonzeros list parts accepted) bytes f list-slice parts-slice list-room parts-room)

@@ -1,4 +1,4 @@
--- A written text has at most 20,228 bytes, and so is short enough to be read.
+-- A written text has at most 40,228 bytes, and so is short enough to be read.
 -- Assumes nothing.
 use mathlib.Core.List.{List, _++_}
 use mathlib.Core.Path.{ap}
@@ -7,6 +7,7 @@ use native.Mathlib.Omega.{arith}
 use lib.ListN.{length, getD, length-append}
 use Rattle.model.specs.Limits.{nonzeroLimit}
 use Rattle.model.specs.Pattern.{rowIn, columnIn}
+use Rattle.texts.specs.Header.{textLimit}
 use Rattle.writing.specs.declared.Figures.{Figures}
 use Rattle.writing.specs.Written.{sizesText, entryText, entriesText, headText, bodyText, textOf}
 use Rattle.writing.proofs.Puttings.{head-short}
@@ -48,3 +49,7 @@ module _ {m n nonzeros : ℕ} {list parts : List ℕ} (split : Fine m n nonzeros
       let entries = entriesText list parts nonzeros in
       omega
       (arith, length-append (headText f) (sizesText m n nonzeros ++ entries), length-append (sizesText m n nonzeros) entries, head-short f, size-line-short, entries-short nonzeros (omega arith), split .few)
+
+  -- within the limit of a text
+  pub text-fits : (f : Figures) → length (textOf m n nonzeros list parts f) ≤ textLimit
+  text-fits f = omega (arith, text-short f)

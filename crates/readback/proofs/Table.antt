@@ -12,7 +12,8 @@ use lib.ListN.{length, getD, set, replicate, length-set, length-replicate, getD-
 use lib.Seq.{getD-set-same, getD-set-other, set-getD}
 use borrow.Author.Tests.{ltb-true, ltb-false, eqb-true, eqb-false, eq-eqb, ne-eqb}
 use Rattle.counting.proofs.Joined.{no-way, by-test, clash, pick-true, pick-false}
-use Rattle.texts.specs.Entries.{cellOf, noCells, isGiven, cellMark}
+use Rattle.model.specs.Limits.{lineLimit}
+use Rattle.texts.specs.Entries.{cellRoom, cellOf, noCells, isGiven, cellMark}
 use Rattle.readback.proofs.Rising.{Rising, rising}
 
 -- the table after the first entries, entry t with its cell and its mark
@@ -21,14 +22,14 @@ tableOf cell mark zero = noCells
 tableOf cell mark (suc t) = set (tableOf cell mark t) (cell t) (mark t)
 
 -- row and column of a cell
-pub cell-row : (i j : ℕ) → j < 120 → (120 * i + j) / 120 ≡ i
-cell-row i j l = mul-add-div {m = 120} (omega arith) i j ∙ omega (arith, div-eq-of-lt l)
+pub cell-row : (i j : ℕ) → j < lineLimit → (lineLimit * i + j) / lineLimit ≡ i
+cell-row i j l = mul-add-div {m = lineLimit} (omega arith) i j ∙ omega (arith, div-eq-of-lt l)
 
-pub cell-column : (i j : ℕ) → j < 120 → (120 * i + j) % 120 ≡ j
-cell-column i j l = mul-add-mod-self-left 120 i j ∙ mod-eq-of-lt l
+pub cell-column : (i j : ℕ) → j < lineLimit → (lineLimit * i + j) % lineLimit ≡ j
+cell-column i j l = mul-add-mod-self-left lineLimit i j ∙ mod-eq-of-lt l
 
 -- the cell of a row and a column counted from 0
-pub cell-is : (i j : ℕ) → cellOf (i + 1) (j + 1) ≡ 120 * i + j
+pub cell-is : (i j : ℕ) → cellOf (i + 1) (j + 1) ≡ lineLimit * i + j
 unfolding cellOf
 cell-is i j = omega arith
 
@@ -55,18 +56,18 @@ pub mark-again : (cells : List ℕ) (p mark : ℕ) → p < length cells → set 
 mark-again cells p mark l =
     ap (set (set cells p mark) p) (sym (getD-set-same cells p mark 0 l)) ∙ set-getD (set cells p mark) p 0
 
-pub none-length : length noCells ≡ 14_400
+pub none-length : length noCells ≡ cellRoom
 unfolding noCells
-none-length = length-replicate {A = ℕ} 14_400 0
+none-length = length-replicate {A = ℕ} cellRoom 0
 
 pub none-there : (p : ℕ) → getD noCells p 0 ≡ 0
 unfolding noCells
 none-there p =
     by-test
-    (ltb p 14_400)
-    (λ e. getD-replicate 14_400 p 0 0 (ltb-true p 14_400 e))
-    (λ e. let l = ltb-false p 14_400 e in
-    List·getD-eq-default (replicate 14_400 0) 0 {n = p} (omega (arith, length-replicate {A = ℕ} 14_400 0)))
+    (ltb p cellRoom)
+    (λ e. getD-replicate cellRoom p 0 0 (ltb-true p cellRoom e))
+    (λ e. let l = ltb-false p cellRoom e in
+    List·getD-eq-default (replicate cellRoom 0) 0 {n = p} (omega (arith, length-replicate {A = ℕ} cellRoom 0)))
 
 pub given-mark : (cells : List ℕ) (p : ℕ) → (getD cells p 0 ≡ 0 → ⊥) → isGiven cells p ≡ true
 unfolding isGiven
@@ -77,7 +78,7 @@ unfolding isGiven
 not-given cells p h = ap not (eq-eqb (getD cells p 0) 0 h)
 
 module _ (cell mark : ℕ → ℕ) where
-  pub table-length : (t : ℕ) → length (tableOf cell mark t) ≡ 14_400
+  pub table-length : (t : ℕ) → length (tableOf cell mark t) ≡ cellRoom
   unfolding tableOf
   table-length zero = none-length
   table-length (suc t) = length-set (tableOf cell mark t) (cell t) (mark t) ∙ table-length t
@@ -96,7 +97,7 @@ module _ (cell mark : ℕ → ℕ) where
 
   -- an entry's cell has its mark
   pub table-mark :
-      {top : ℕ} → Rising cell top → (t s : ℕ) → t ≤ top → s < t → cell s < 14_400 → getD (tableOf cell mark t) (cell s) 0 ≡ mark s
+      {top : ℕ} → Rising cell top → (t s : ℕ) → t ≤ top → s < t → cell s < cellRoom → getD (tableOf cell mark t) (cell s) 0 ≡ mark s
   unfolding tableOf
   table-mark r zero s b l h = no-way (omega arith)
   table-mark r (suc t) s b l h =

@@ -13,6 +13,7 @@ use borrow.Author.Tests.{eqb-true, eqb-false, ltb-true, ltb-false}
 use Rattle.counting.specs.Sums.{count}
 use Rattle.counting.proofs.Joined.{by-test}
 use Rattle.model.specs.declared.Verdict.the-variants.{Accepted}
+use Rattle.model.specs.Limits.{lineLimit}
 use Rattle.model.specs.Pattern.{rowIn, columnIn}
 use Rattle.texts.specs.declared.Header.{Header}
 use Rattle.texts.specs.declared.ReadAnswer.the-variants as read-answer
@@ -33,7 +34,7 @@ use Rattle.readback.proofs.AnyText.{lines, square, all, entered, genera
 
 -- a table of all lines, the list and the parts that it gives
 module _
-    (text : List ℕ) {cells : List ℕ} {nonzeros : ℕ} (rows : headerOf text .m ≤ 120) (columns : headerOf text .n ≤ 120) (whole : AllNoted text cells)
+    (text : List ℕ) {cells : List ℕ} {nonzeros : ℕ} (rows : headerOf text .m ≤ lineLimit) (columns : headerOf text .n ≤ lineLimit) (whole : AllNoted text cells)
     (table : Entered (headerOf text .m) (headerOf text .n) cells nonzeros) where
   abbrev h : Header
   h = headerOf text
@@ -45,15 +46,15 @@ module _
   form-of k e = whole .noted-all .in-form k (line-before k e) e
 
   -- the cell of (row, column) is one of the line that gives it
-  line-own : (k row column : ℕ) → LineGives text k (row + 1) (column + 1) → Own text k (120 * row + column)
+  line-own : (k row column : ℕ) → LineGives text k (row + 1) (column + 1) → Own text k (lineLimit * row + column)
   line-own k row column g = stands-own text rows columns k row column (g .stands)
 
-  cell-given : (k row column : ℕ) → LineGives text k (row + 1) (column + 1) → isGiven cells (120 * row + column) ≡ true
+  cell-given : (k row column : ℕ) → LineGives text k (row + 1) (column + 1) → isGiven cells (lineLimit * row + column) ≡ true
   cell-given k row column g =
-      line-given (whole .noted-all) k (120 * row + column) (line-before k (g .entry)) (g .entry) (line-own k row column g)
+      line-given (whole .noted-all) k (lineLimit * row + column) (line-before k (g .entry)) (g .entry) (line-own k row column g)
 
   -- a cell that is given comes of a line
-  given-says : (p : ℕ) → isGiven cells p ≡ true → TextGives text (p / 120 + 1) (p % 120 + 1)
+  given-says : (p : ℕ) → isGiven cells p ≡ true → TextGives text (p / lineLimit + 1) (p % lineLimit + 1)
   given-says p g =
       let w = whole .noted-all .from-line p g in
       record {
@@ -61,37 +62,36 @@ module _
         gives = record { entry = w .2; stands = own-stands text rows columns (w .0) p (form-of (w .0) (w .2)) (w .3) };
       }
 
-  module _ {list : List ℕ} (gives : GivesList cells (120 * h .m) list) where
+  module _ {list : List ℕ} (gives : GivesList cells (lineLimit * h .m) list) where
     -- from the list to a line
     line-of : (row column : ℕ) → InList list nonzeros row column → TextGives text (row + 1) (column + 1)
     line-of row column l =
         let a = cell-of table (l .nonzero) (l .numbered) in
-        let at-row : a .0 / 120 + 1 ≡ row + 1 = omega (arith, row-is table gives (l .nonzero) (l .numbered), l .row-is) in
-        let at-column : a .0 % 120 + 1 ≡ column + 1 = omega (arith, column-is table gives (l .nonzero) (l .numbered), l .column-is) in
+        let at-row : a .0 / lineLimit + 1 ≡ row + 1 = omega (arith, row-is table gives (l .nonzero) (l .numbered), l .row-is) in
+        let at-column : a .0 % lineLimit + 1 ≡ column + 1 = omega (arith, column-is table gives (l .nonzero) (l .numbered), l .column-is) in
         rw (sym at-row, sym at-column) (given-says (a .0) (a .2))
 
     -- from a line to the list
-    nonzero-of : (row column : ℕ) → column < 120 → TextGives text (row + 1) (column + 1) → InList list nonzeros row column
-    unfolding rowIn columnIn
+    nonzero-of : (row column : ℕ) → column < lineLimit → TextGives text (row + 1) (column + 1) → InList list nonzeros row column
     nonzero-of row column small t =
-        let p = 120 * row + column in
+        let p = lineLimit * row + column in
         let given = cell-given (t .line) row column (t .gives) in
         let inside = cell-before (table .inside p given) in
         record {
           nonzero = count (isGiven cells) p;
-          numbered = omega (arith, count-later (isGiven cells) p (120 * h .m) given inside, table .total);
+          numbered = omega (arith, count-later (isGiven cells) p (lineLimit * h .m) given inside, table .total);
           row-is = gives .row p inside given ∙ cell-row row column small;
           column-is = gives .column p inside given ∙ cell-column row column small;
         }
 
     part-of :
-        {parts : List ℕ} → GivesParts cells (120 * h .m) parts → (t k : ℕ) → t < nonzeros →
+        {parts : List ℕ} → GivesParts cells (lineLimit * h .m) parts → (t k : ℕ) → t < nonzeros →
         LineGives text k (rowIn list t + 1) (columnIn list t + 1) → entryBelow text k .third ≡ getD parts t 0 + 1
     part-of {parts} gives-parts t k l g =
         let a = cell-of table t l in
         let p = a .0 in
         let f = form-of k (g .entry) in
-        let here : 120 * rowIn list t + columnIn list t ≡ p = omega (arith, row-is table gives t l, column-is table gives t l, div-add-mod' p 120) in
+        let here : lineLimit * rowIn list t + columnIn list t ≡ p = omega (arith, row-is table gives t l, column-is table gives t l, div-add-mod' p lineLimit) in
         let mark = whole .noted-all .marked k _ (line-before k (g .entry)) (g .entry) (line-own k (rowIn list t) (columnIn list t) g) in
         omega (
           arith,
@@ -104,7 +104,7 @@ module _
         )
 
   -- a line gives a column of the matrix
-  column-small : (row column : ℕ) → TextGives text row (column + 1) → column < 120
+  column-small : (row column : ℕ) → TextGives text row (column + 1) → column < lineLimit
   column-small row column t =
       let g = t .gives in
       let f = form-of (t .line) (g .entry) in
@@ -136,14 +136,14 @@ module _ (text list parts : List ℕ) {m n nonzeros : ℕ} {integer : Bool} (e :
   abbrev v : readVerdict text list parts ≡ Accepted
   v = answered text list parts e .accepted
 
-  pub cell-says : (p : ℕ) → isGiven (cellsOf text) p ≡ true → TextGives text (p / 120 + 1) (p % 120 + 1)
+  pub cell-says : (p : ℕ) → isGiven (cellsOf text) p ≡ true → TextGives text (p / lineLimit + 1) (p % lineLimit + 1)
   cell-says p g = given-says text (lines text list parts v .0) (lines text list parts v .1) (all text list parts v) (entered text list parts v) p g
 
-  pub says-cell : (p : ℕ) → TextGives text (p / 120 + 1) (p % 120 + 1) → isGiven (cellsOf text) p ≡ true
+  pub says-cell : (p : ℕ) → TextGives text (p / lineLimit + 1) (p % lineLimit + 1) → isGiven (cellsOf text) p ≡ true
   says-cell p t =
-      let whole : p ≡ 120 * (p / 120) + p % 120 = omega (arith, div-add-mod' p 120) in
+      let whole : p ≡ lineLimit * (p / lineLimit) + p % lineLimit = omega (arith, div-add-mod' p lineLimit) in
       ap (isGiven (cellsOf text)) whole
-      ∙ cell-given text (lines text list parts v .0) (lines text list parts v .1) (all text list parts v) (entered text list parts v) (t .line) (p / 120) (p % 120) (t .gives)
+      ∙ cell-given text (lines text list parts v .0) (lines text list parts v .1) (all text list parts v) (entered text list parts v) (t .line) (p / lineLimit) (p % lineLimit) (t .gives)
 
 -- what a text that is read says
 pub text-says :

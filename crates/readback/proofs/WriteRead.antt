@@ -12,11 +12,12 @@ use Rattle.counting.proofs.Joined.{by-test, pick-true, pick-false, never}
 use Rattle.model.specs.declared.Word.the-variants.{ShortBuffer}
 use Rattle.model.specs.declared.Verdict.{Verdict}
 use Rattle.model.specs.declared.Verdict.the-variants.{Accepted, Refused}
+use Rattle.model.specs.Pattern.{entryBytes}
 use Rattle.writing.specs.declared.Figures.{Figures}
 use Rattle.writing.specs.declared.WriteAnswer.the-variants as write-answer
 use Rattle.writing.specs.Written.{textOf}
 use Rattle.writing.specs.Writing.{writeVerdict, lengthAnswer, textOut, answerWritten, outWritten, writeCall, writeOut}
-use Rattle.readback.specs.Reads.{ReadsAs}
+use Rattle.readback.specs.Reads.{Bytes, ReadsAs}
 use Rattle.readback.proofs.ReadsBack.{reads-back}
 
 -- the verdict of a writing that answers a length, and what it leaves
@@ -48,10 +49,10 @@ wrote Accepted text out len e =
 
 pub write-reads-back :
     (m n nonzeros : ℕ) (list parts : List ℕ) (f : Figures) (out : List ℕ) (len : ℕ) (list-slice parts-slice : List ℕ) →
-    writeCall m n nonzeros list parts f out ≡ write-answer.Written len →
-    2 * nonzeros ≤ length list-slice → nonzeros ≤ length parts-slice →
+    Bytes list (entryBytes * nonzeros) → writeCall m n nonzeros list parts f out ≡ write-answer.Written len →
+    entryBytes * nonzeros ≤ length list-slice → nonzeros ≤ length parts-slice →
     ReadsAs (take len (writeOut m n nonzeros list parts f out)) m n nonzeros list parts list-slice parts-slice
 unfolding writeCall writeOut
-write-reads-back m n nonzeros list parts f out len list-slice parts-slice e list-room parts-room =
+write-reads-back m n nonzeros list parts f out len list-slice parts-slice bytes e list-room parts-room =
     let w = wrote (writeVerdict m n nonzeros list parts) (textOf m n nonzeros list parts f) out len e in
-    rw (w .left) (reads-back m n nonzeros list parts f list-slice parts-slice (w .accepted) list-room parts-room)
+    rw (w .left) (reads-back m n nonzeros list parts f list-slice parts-slice bytes (w .accepted) list-room parts-room)

@@ -9,6 +9,10 @@ use Rattle.model.specs.Pattern.{entryBytes}
 use Rattle.texts.specs.declared.ReadAnswer.the-variants as read-answer
 use Rattle.texts.specs.Reading.{readCall, readList, readParts}
 
+-- the first numbers of a list are bytes, as every number of a slice of bytes is
+pub record Bytes (list : List ℕ) (size : ℕ) : Type 0 where
+  pub byte : (i : ℕ) → i < size → getD list i 0 < 256
+
 -- a slice's bytes after so many bytes were written to it: those bytes, and past them the bytes that were there
 pub record Filled (new bytes old : List ℕ) (size : ℕ) : Type 0 where
   pub same-length : length new ≡ length old

@@ -7,6 +7,7 @@ use Prim.Native.Nat.{ℕ, _+_, _*_, _≤_}
 use native.Mathlib.Omega.{arith}
 use lib.ListN.{length}
 use borrow.Author.Tests.{ltb-false}
+use Rattle.trail.specs.Trail.{markRoom}
 use Rattle.model.specs.declared.Word.the-variants.{ShortBuffer}
 use Rattle.model.specs.declared.Verdict.the-variants.{Accepted}
 use Rattle.model.specs.declared.Caps.{Caps}
@@ -52,16 +53,16 @@ module _ (m n nonzeros : ℕ) (list : List ℕ) (caps : Caps) (accepted : openVe
   walked-orderly total =
       walk-orderly (rulesOf P caps) (P .m) (P .n) (P .size) caps total (empty-valid (rules-sound P caps inside))
 
-  few : lineTotal P ≤ 2 * lineLimit
+  few : lineTotal P ≤ markRoom
   unfolding patternOf
   few = few-lines P (list-fine .rows-to) (list-fine .columns-to)
 
-  k-few : rulesOf P caps .k ≤ 2 * lineLimit
+  k-few : rulesOf P caps .k ≤ markRoom
   unfolding rulesOf
   k-few = few
 
   best-short :
-      (total : ℕ) (τ : List ℕ) → walked P caps total .best ≡ some τ → length τ ≤ 2 * lineLimit
+      (total : ℕ) (τ : List ℕ) → walked P caps total .best ≡ some τ → length τ ≤ markRoom
   unfolding walked freshOf rulesOf
   best-short total τ e =
       let w = best-is (rulesOf P caps) (P .m) (P .n) (P .size) caps total τ (empty-valid (rules-sound P caps inside)) e in

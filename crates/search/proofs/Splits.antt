@@ -5,6 +5,8 @@ use mathlib.Core.Path.{_≡_, refl, sym, _∙_, ap}
 use Prim.Native.Nat.{ℕ, _+_, _≤_, _<_}
 use native.Mathlib.Omega.{arith}
 use lib.ListN.{length, getD}
+use Rattle.trail.specs.Trail.{markRoom}
+use Rattle.model.specs.Limits.{lineRoom}
 use Rattle.model.specs.declared.Part.the-variants.{Zero}
 use Rattle.trail.specs.declared.Trail.{Trail}
 use Rattle.model.specs.declared.Caps.{Caps}
@@ -23,7 +25,8 @@ use Rattle.marking.specs.Marks.{markFor}
 use Rattle.weighing.specs.Cells.{markingIn}
 use Rattle.bound.specs.declared.Evaluation.{Evaluation}
 use Rattle.bound.specs.Evaluated.{Listed, Placed, Evaluates}
-use Rattle.bound.proofs.Evaluations.{by-line}
+use Rattle.pattern.specs.Room.{within}
+use Rattle.bound.proofs.Evaluations.{listed-few, by-line}
 use Rattle.showing.proofs.ReadBack.{volume-back}
 use Rattle.state.specs.Holding.{clearedTo}
 use Rattle.state.proofs.Normal.{cleared-is}
@@ -36,11 +39,11 @@ trail-parts τ = (refl, refl)
 module _
     (m n nonzeros : ℕ) (list places starts : List ℕ) (caps : Caps) (total : ℕ) (best kept : Trail) (entries parts new : List ℕ) (judged : Evaluation)
     (clears : kept ≡ clearedTo best)
-    (all : total ≡ m + n) (few : total < 512)
-    (marked : (length entries ≡ 512) × ((l : ℕ) → l < 512 → getD entries l 0 ≡ markFor total places (kept .marks) (kept .len) l))
+    (all : total ≡ within (m + n))
+    (marked : (length entries ≡ lineRoom) × ((l : ℕ) → l < lineRoom → getD entries l 0 ≡ markFor total places (kept .marks) (kept .len) l))
     (judges : Listed m n nonzeros list starts → Evaluates (patternOf m n nonzeros list) caps (markingIn entries) judged)
     (writes : judged .zero ≡ taken (patternOf m n nonzeros list) (markingIn entries) Zero → new ≡ partBytes (shownSplit (patternOf m n nonzeros list) caps (markingIn entries)) nonzeros parts)
-    (listed : Listed m n nonzeros list starts) (placed : Placed (patternOf m n nonzeros list) places) (short : best .len ≤ 240) where
+    (listed : Listed m n nonzeros list starts) (placed : Placed (patternOf m n nonzeros list) places) (short : best .len ≤ markRoom) where
   -- the parts, where the marks by line are those of the marking
   pub parts-shown : new ≡ partBytes (shownFrom (patternOf m n nonzeros list) caps (marksIn best)) nonzeros parts
   unfolding shownFrom
@@ -48,7 +51,7 @@ module _
       let P = patternOf m n nonzeros list in
       let τ = marksIn best in
       let held = clears ∙ cleared-is best short in
-      let same = by-line m n nonzeros list places (kept .marks) entries (kept .len) total all few marked placed τ (omega (arith, marks-length best)) (ap (λ (t : Trail). t .marks) held ∙ trail-parts τ .0) (ap (λ (t : Trail). t .len) held ∙ trail-parts τ .1) in
+      let same = by-line m n nonzeros list places (kept .marks) entries (kept .len) total all (listed-few listed) marked placed τ (omega (arith, marks-length best)) (ap (λ (t : Trail). t .marks) held ∙ trail-parts τ .0) (ap (λ (t : Trail). t .len) held ∙ trail-parts τ .1) in
       let k : AlikeMarks P P (markingIn entries) (marking P τ) = inside-marks (listed .inside) (alike-self P) same in
       writes (judges listed .zero-is)
       ∙ ap (λ (x : ℕ). partBytes (shownSplit P caps (markingIn entries)) x parts) (sym (size-of m n nonzeros list))

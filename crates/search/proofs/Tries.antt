@@ -5,7 +5,7 @@ use mathlib.Core.List.{List, _∷_}
 use mathlib.Core.Path.{_≡_, refl, sym, _∙_, ap}
 use Prim.Native.Nat.{ℕ, _+_, _≤_, _<_}
 use lib.ListN.{length}
-use Rattle.trail.specs.Trail.{advanced}
+use Rattle.trail.specs.Trail.{markRoom, advanced}
 use Rattle.model.specs.declared.Search.{Search}
 use Rattle.model.specs.Walk.{Record, Rules, cuts, advance, tried, improved, looksAt, outcome}
 use Rattle.model.specs.State.{arrayOf, trailOf, isFound, bestOr, searchOf}
@@ -16,7 +16,7 @@ use Rattle.state.proofs.Held.{marks-back}
 use Rattle.search.specs.Trying.{triedTo, improvedBy, outcomeBy}
 
 -- the cut lines of a marking in its array
-pub cuts-of : (τ : List ℕ) → length τ ≤ 240 → cutsIn (arrayOf τ) (length τ) ≡ cuts τ
+pub cuts-of : (τ : List ℕ) → length τ ≤ markRoom → cutsIn (arrayOf τ) (length τ) ≡ cuts τ
 unfolding trailOf
 cuts-of τ b = cuts-is (trailOf τ) b ∙ ap cuts (marks-back τ b)
 
@@ -40,7 +40,7 @@ tried-is looks r τ =
     }
 
 -- a better marking on the search of a record
-pub improved-is : (r : Record) → length (r .trail) ≤ 240 → improvedBy (searchOf r) ≡ searchOf (improved r)
+pub improved-is : (r : Record) → length (r .trail) ≤ markRoom → improvedBy (searchOf r) ≡ searchOf (improved r)
 unfolding improvedBy searchOf improved isFound bestOr trailOf
 improved-is r b =
     λ i. record {
@@ -60,7 +60,7 @@ improved-is r b =
 
 -- what a try does to the search of a record
 pub outcome-is :
-    (R : Rules) (stands shorter : Bool) (r : Record) → length (r .trail) ≤ 240 → (shorter ≡ true → length (r .trail) < 240) →
+    (R : Rules) (stands shorter : Bool) (r : Record) → length (r .trail) ≤ markRoom → (shorter ≡ true → length (r .trail) < markRoom) →
     outcomeBy (looksAt R (r .trail)) (R .oneFirst) stands shorter (searchOf r) ≡ searchOf (outcome R stands shorter r)
 unfolding outcomeBy outcome searchOf
 outcome-is R true true r b room =

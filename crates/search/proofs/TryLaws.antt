@@ -11,6 +11,7 @@ use lib.ListN.{length}
 use borrow.Author.Tests.{ltb-true}
 use Rattle.counting.specs.Tests.{_and_, pick}
 use Rattle.counting.proofs.Joined.{and-passed, and-fails-left, by-test, pick-true, pick-false}
+use Rattle.trail.specs.Trail.{markRoom}
 use Rattle.model.specs.declared.Caps.{Caps}
 use Rattle.model.specs.declared.Search.{Search}
 use Rattle.model.specs.Limits.{triesLimit}
@@ -56,7 +57,7 @@ looks-are P caps μ j h =
 abbrev pub Judged : ℕ → ℕ → ℕ → List ℕ → List ℕ → List ℕ → Search → Evaluation → Type 0
 Judged m n nonzeros list places starts s j =
     Listed m n nonzeros list starts → Placed (patternOf m n nonzeros list) places →
-    (τ : List ℕ) → length τ ≤ 240 → s .trail .marks ≡ arrayOf τ → s .trail .len ≡ length τ →
+    (τ : List ℕ) → length τ ≤ markRoom → s .trail .marks ≡ arrayOf τ → s .trail .len ≡ length τ →
     Evaluates (patternOf m n nonzeros list) (capsIn s) (marking (patternOf m n nonzeros list) τ) j
 
 -- what the code has of a try: the evaluation of the trail, whether it stands, and the outcome
@@ -73,7 +74,7 @@ try-of :
 unfolding searchOf trailOf tryOnce stands looksAt rulesOf
 try-of m n nonzeros list places starts k j res ready r f t =
     let P = patternOf m n nonzeros list in
-    let short : length (r .trail) ≤ 240 = omega (arith, f .trail-fits, ready .few) in
+    let short : length (r .trail) ≤ markRoom = omega (arith, f .trail-fits, ready .few) in
     let e = t .judged (ready .listed) (ready .placed) (r .trail) short refl refl in
     t .ended
     ∙ ap
@@ -108,7 +109,7 @@ module _ (m n nonzeros : ℕ) (list places starts : List ℕ) (k : ℕ) (search 
   looks-few judged =
       let P = patternOf m n nonzeros list in
       let τ = recordOf search .trail in
-      let short : length τ ≤ 240 = omega (arith, t .fits .trail-fits, t .ready .few) in
+      let short : length τ ≤ markRoom = omega (arith, t .fits .trail-fits, t .ready .few) in
       let e = judged (t .ready .listed) (t .ready .placed) τ short (ap (λ (s : Search). s .trail .marks) held) (ap (λ (s : Search). s .trail .len) held) in
       omega (arith, looks-are P (capsIn search) (marking P τ) j e, try-looks (rulesOf P (capsIn search)) (rules-looks P (capsIn search) (t .ready .listed .inside)) τ)
 

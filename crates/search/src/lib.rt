@@ -28,7 +28,7 @@ pub fn open(m: u64, n: u64, nonzeros: u64, list: &[u8], cap0: u64, cap1: u64) ->
     let verdict = open_verdict(m, n, nonzeros, list, caps);
     match verdict {
         Verdict::Accepted => {
-            let k = line_total(m as u8, n as u8, nonzeros as u16, list);
+            let k = line_total(m as u16, n as u16, nonzeros as u16, list);
             let search = fresh_search(m, n, nonzeros, caps, k);
             Opened {
                 verdict: Verdict::Accepted,

@@ -1,6 +1,5 @@
 // A showing: the split in the lent parts, its volume, and the floor.
 use bound::evaluating::evaluate_lines;
-use bound::tables::lines_of;
 use bound::tables::places;
 use flooring::least::least_open;
 use marking::marks::marks_by_line;
@@ -10,8 +9,11 @@ use model::Search;
 use model::ShowAnswer;
 use model::Verdict;
 use model::Word;
+use model::limits::LINE_ROOM;
+use model::limits::SIDE_ENDS;
 use pattern::checks::list_verdict;
 use pattern::reading::wide16;
+use pattern::room::lines_of;
 use pattern::splits::volume_of;
 use showing::write_split;
 use state::checking::state_fine;
@@ -21,6 +23,7 @@ use trail::Trail;
 ghost use mathlib.Core.Path.{_≡_};
 ghost use Prim.Native.Nat.{_≤_};
 ghost use lib.ListN.{length};
+ghost use Rattle.trail.specs.Trail.{markRoom};
 ghost use Rattle.model.specs.declared.Verdict.the-variants.{Accepted};
 ghost use Rattle.model.specs.Pattern.{patternOf};
 ghost use Rattle.model.specs.Split.{volume};
@@ -34,15 +37,15 @@ ghost use Rattle.search.specs.Showing.{roomBy};
 // The floor of a search.
 fn floor_of(
     search: Search,
-    m: u8,
-    n: u8,
+    m: u16,
+    n: u16,
     nonzeros: u16,
     list: &[u8],
-    places: &[u16; 512],
-    starts: &[u16; 257],
+    places: &[u16; LINE_ROOM],
+    starts: &[u16; SIDE_ENDS],
 ) -> u64
     ensures { λ r. ⌜ (Listed m n nonzeros (now (list .entry)) (now (starts .entry)) →
-        Placed (patternOf m n nonzeros (now (list .entry))) (now (places .entry)) → search .trail .len ≤ 240 →
+        Placed (patternOf m n nonzeros (now (list .entry))) (now (places .entry)) → search .trail .len ≤ markRoom →
         r ≡ floor (rulesOf (patternOf m n nonzeros (now (list .entry))) (capsIn search)) (recordOf search)) ⌝ }
 {
     let best = search.best_count;
@@ -60,21 +63,21 @@ fn floor_of(
 // Writes the split that a marking shows to the parts, and gives its volume.
 fn show_split(
     best: Trail,
-    m: u8,
-    n: u8,
+    m: u16,
+    n: u16,
     nonzeros: u16,
     list: &[u8],
     caps: Caps,
-    places: &[u16; 512],
-    starts: &[u16; 257],
+    places: &[u16; LINE_ROOM],
+    starts: &[u16; SIDE_ENDS],
     parts: &mut [u8],
 ) -> u64
     ensures volume { λ r. ⌜ (Listed m n nonzeros (now (list .entry)) (now (starts .entry)) →
-        Placed (patternOf m n nonzeros (now (list .entry))) (now (places .entry)) → best .len ≤ 240 →
+        Placed (patternOf m n nonzeros (now (list .entry))) (now (places .entry)) → best .len ≤ markRoom →
         nonzeros ≤ length (now (parts .entry)) →
         r ≡ volume (patternOf m n nonzeros (now (list .entry))) (shownFrom (patternOf m n nonzeros (now (list .entry))) caps (marksIn best))) ⌝ }
     ensures parts { λ r. ⌜ (Listed m n nonzeros (now (list .entry)) (now (starts .entry)) →
-        Placed (patternOf m n nonzeros (now (list .entry))) (now (places .entry)) → best .len ≤ 240 →
+        Placed (patternOf m n nonzeros (now (list .entry))) (now (places .entry)) → best .len ≤ markRoom →
         now (parts .exit) ≡ partBytes (shownFrom (patternOf m n nonzeros (now (list .entry))) caps (marksIn best)) nonzeros (now (parts .entry))) ⌝ }
 {
     let kept = cleared(best);
@@ -88,12 +91,12 @@ fn show_split(
 // A showing of a state that is not refused.
 fn show_fine(
     search: Search,
-    m: u8,
-    n: u8,
+    m: u16,
+    n: u16,
     nonzeros: u16,
     list: &[u8],
-    places: &[u16; 512],
-    starts: &[u16; 257],
+    places: &[u16; LINE_ROOM],
+    starts: &[u16; SIDE_ENDS],
     k: u16,
     parts: &mut [u8],
 ) -> ShowAnswer
@@ -142,8 +145,8 @@ fn show_listed(
     ensures answer { λ a. ⌜ a ≡ showCall search m n nonzeros (now (list .entry)) (now (parts .entry)) ⌝ }
     ensures parts { λ a. ⌜ now (parts .exit) ≡ showParts search m n nonzeros (now (list .entry)) (now (parts .entry)) ⌝ }
 {
-    let rows = m as u8;
-    let columns = n as u8;
+    let rows = m as u16;
+    let columns = n as u16;
     let size = nonzeros as u16;
     let places = places(rows, columns, size, list);
     let starts = row_starts(list, size);

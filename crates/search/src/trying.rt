@@ -3,6 +3,8 @@ use bound::Evaluation;
 use bound::evaluating::evaluate;
 use model::Caps;
 use model::Search;
+use model::limits::LINE_ROOM;
+use model::limits::SIDE_ENDS;
 use pattern::cap::unequal_caps;
 use pattern::reading::wide16;
 use state::legal::cuts_before;
@@ -75,12 +77,12 @@ fn judged_stands(judged: Evaluation, best: u64) -> bool
 // One try on a search that is not complete.
 fn try_once(
     search: Search,
-    m: u8,
-    n: u8,
+    m: u16,
+    n: u16,
     nonzeros: u16,
     list: &[u8],
-    places: &[u16; 512],
-    starts: &[u16; 257],
+    places: &[u16; LINE_ROOM],
+    starts: &[u16; SIDE_ENDS],
     k: u16,
 ) -> Search
     requires { ⌜ (search .tries < triesLimit) × (search ≡ searchOf (recordOf search))

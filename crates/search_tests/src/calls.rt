@@ -7,6 +7,7 @@ use crate::saying::say_same;
 use crate::saying::say_sizes;
 use crate::saying::say_verdict;
 use crate::shown::shows;
+use model::limits::PART_ROOM;
 use testing::Kind;
 use testing::cases::field_at;
 use testing::saying::say;
@@ -31,7 +32,7 @@ pub(crate) fn say_calls(words: &[u8], current: Current, room: usize) {
     say_run(answer);
     say_same(current.search, ran.search);
     say(b", show");
-    shows(current, [9u8; 2000], room);
+    shows(current, [9u8; PART_ROOM], room);
 }
 
 // What an opening answers to the list of a pattern, and what a run and a showing of the search do.
@@ -48,7 +49,7 @@ pub(crate) fn list(cases: &[u8], current: Current) -> Current {
 
 // What a showing answers with the parts that are given.
 pub(crate) fn into(cases: &[u8], current: Current) -> Current {
-    let mut parts = [9u8; 2000];
+    let mut parts = [9u8; PART_ROOM];
     let room = field_at(
         cases,
         say_field(cases, current.at),

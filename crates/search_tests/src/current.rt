@@ -2,9 +2,12 @@
 use model::Ran;
 use model::Search;
 use model::Verdict;
+use model::limits::LIST_ROOM;
+use model::limits::PART_ROOM;
+use model::limits::SIDE_ROOM;
 use pattern::reading::byte_at;
-use testing::Kind;
-use testing::cases::field_at;
+use pattern::reading::put_entry;
+use testing::cases::list_at;
 use testing::cases::number_at;
 use testing::laying::first;
 
@@ -16,39 +19,42 @@ pub struct Current {
     pub cap0: u64,
     pub cap1: u64,
     pub cells: usize,
-    pub list: [u8; 4000],
+    pub list: [u8; LIST_ROOM],
     pub len: usize,
     pub verdict: Verdict,
     pub search: Search,
     pub at: usize,
 }
 
-// The cells of 2,000 nonzeros, row by row in rows of 120.
-fn long_list() -> [u8; 4000] {
-    let mut list = [0u8; 4000];
+// Lays out the most nonzeros in a list, row by row in the longest rows.
+fn lay_rows(list: &mut [u8]) {
     let mut t: usize = 0;
-    while t < 2000 {
-        list[2 * t] = (t / 120) as u8;
-        list[2 * t + 1] = (t % 120) as u8;
+    while t < PART_ROOM {
+        put_entry(
+            list,
+            t as u32,
+            (t / SIDE_ROOM) as u16,
+            (t % SIDE_ROOM) as u16,
+        );
         t += 1;
     }
-    list
 }
 
-// The list of some cells, of which the words `row by row` stand for 2,000.
-fn list_at(cases: &[u8], at: usize) -> [u8; 4000] {
+// The list of some cells, of which the words `row by row` stand for the most.
+fn cells_at(cases: &[u8], at: usize) -> [u8; LIST_ROOM] {
+    let mut list = [0u8; LIST_ROOM];
     if byte_at(cases, at) == b'r' {
-        return long_list();
+        lay_rows(&mut list);
+    } else {
+        list_at(cases, at, &mut list);
     }
-    let mut list = [0u8; 4000];
-    field_at(cases, at, Kind::Numbers, &mut list);
     list
 }
 
 // How many bytes the list of some cells has.
 fn len_at(cases: &[u8], at: usize, count: u64) -> usize {
     if byte_at(cases, at) == b'r' {
-        4000
+        LIST_ROOM
     } else {
         count as usize
     }
@@ -61,8 +67,8 @@ pub(crate) fn fresh_at(cases: &[u8], at: usize) -> Current {
     let nonzeros = number_at(cases, n.next);
     let cap0 = number_at(cases, nonzeros.next);
     let cap1 = number_at(cases, cap0.next);
-    let cells = field_at(cases, cap1.next, Kind::Numbers, &mut []);
-    let list = list_at(cases, cap1.next);
+    let cells = list_at(cases, cap1.next, &mut []);
+    let list = cells_at(cases, cap1.next);
     let len = len_at(cases, cap1.next, cells.value);
     let opened = search::open(
         m.value,

@@ -13,6 +13,7 @@ use testing::laying::first;
 use testing::laying::lay_marks;
 use testing::saying::say;
 use testing::saying::say_field;
+use trail::MARK_ROOM;
 use trail::Trail;
 
 // The search with one of its numbers or markings replaced, by the third letter of its name, in which the names differ.
@@ -37,8 +38,8 @@ fn replaced(mut search: Search, letter: u8, number: u64, trail: Trail) -> Search
 // The search with one of its numbers or markings replaced: its name, the number or the marking's length, and its marks.
 pub(crate) fn put(cases: &[u8], mut current: Current) -> Current {
     let mut name = [0u8; 16];
-    let mut letters = [0u8; 16];
-    let mut marks = [0u8; 240];
+    let mut letters = [0u8; MARK_ROOM];
+    let mut marks = [0u8; MARK_ROOM];
     let word = field_at(cases, current.at, Kind::Text, &mut name);
     let number = number_at(cases, word.next);
     let given = field_at(cases, number.next, Kind::Text, &mut letters);

@@ -52,7 +52,7 @@ fn case_at(cases: &[u8], current: Current) -> Current {
 
 // Reads the cases and answers each of them in turn.
 fn main() {
-    let mut cases = [0u8; 16384];
+    let mut cases = [0u8; 65536];
     let len = io::read_full(STDIN_FILENO, &mut cases);
     let mut current = go_to(fresh_at(&cases, 0), 0);
     let mut at: usize = 0;

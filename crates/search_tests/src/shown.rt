@@ -3,13 +3,14 @@ use crate::current::Current;
 use crate::saying::say_marks;
 use crate::saying::say_record;
 use model::ShowAnswer;
+use model::limits::PART_ROOM;
 use testing::laying::first;
 use testing::saying::say;
 use testing::saying::say_number;
 use testing::saying::say_refused;
 
 // What a showing answers, with the first bytes of its parts where it gives a split.
-fn say_show(answer: ShowAnswer, parts: [u8; 2000], len: usize) {
+fn say_show(answer: ShowAnswer, parts: [u8; PART_ROOM], len: usize) {
     match answer {
         ShowAnswer::Split { volume, floor } => {
             say_number(b" floor ", floor);
@@ -26,7 +27,11 @@ fn say_show(answer: ShowAnswer, parts: [u8; 2000], len: usize) {
 }
 
 // What a showing answers that is lent so many of the parts, and the parts after it.
-pub(crate) fn say_shown(current: Current, mut parts: [u8; 2000], room: usize) -> [u8; 2000] {
+pub(crate) fn say_shown(
+    current: Current,
+    mut parts: [u8; PART_ROOM],
+    room: usize,
+) -> [u8; PART_ROOM] {
     let list = current.list;
     let search = current.search;
     if room <= parts.len() {
@@ -44,7 +49,7 @@ pub(crate) fn say_shown(current: Current, mut parts: [u8; 2000], room: usize) ->
 }
 
 // What a showing answers, and the parts after it.
-pub(crate) fn shows(current: Current, parts: [u8; 2000], room: usize) {
+pub(crate) fn shows(current: Current, parts: [u8; PART_ROOM], room: usize) {
     let after = say_shown(current, parts, room);
     say(b" parts ");
     say_marks(&after, room);
@@ -54,6 +59,6 @@ pub(crate) fn shows(current: Current, parts: [u8; 2000], room: usize) {
 // A search's record and what is shown of it, on a line of its own.
 pub(crate) fn say_search(current: Current) {
     say_record(current.search);
-    say_shown(current, [9u8; 2000], 2000);
+    say_shown(current, [9u8; PART_ROOM], PART_ROOM);
     say(b"\n");
 }

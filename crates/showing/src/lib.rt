@@ -3,6 +3,7 @@ use counting::joining::bit_of;
 use counting::joining::both_of;
 use counting::joining::either_of;
 use model::Caps;
+use model::limits::LINE_ROOM;
 use pattern::reading::column_of;
 use pattern::reading::long16;
 use pattern::reading::put;
@@ -60,12 +61,12 @@ fn write_part(parts: &mut [u8], t: u16, part: u8)
 
 // Writes the shown split of a marking, of which part 0 takes so many nonzeros.
 pub fn write_split(
-    m: u8,
-    n: u8,
+    m: u16,
+    n: u16,
     nonzeros: u16,
     list: &[u8],
     caps: Caps,
-    marks: &[u8; 512],
+    marks: &[u8; LINE_ROOM],
     zero: u16,
     parts: &mut [u8],
 )

@@ -1,4 +1,6 @@
 // Inputs, and answers printed.
+use answering::INPUT_ROOM;
+use answering::OUTPUT_ROOM;
 use answering::splitting::answer;
 use testing::Kind;
 use testing::cases::field_at;
@@ -18,14 +20,14 @@ pub(crate) fn say_name(cases: &[u8], at: usize) -> usize {
 
 // The answer to an input, with room for the longest one.
 fn say_answer(input: &[u8]) {
-    let mut out = [0u8; 32768];
+    let mut out = [0u8; OUTPUT_ROOM];
     let len = answer(input, &mut out);
     say(first(&out, len));
 }
 
 // An input written out.
 pub(crate) fn answer_case(cases: &[u8], at: usize) -> usize {
-    let mut page = [0u8; 8192];
+    let mut page = [0u8; 16384];
     let input = field_at(cases, say_name(cases, at), Kind::Text, &mut page);
     say_answer(first(&page, input.value as usize));
     input.next
@@ -37,7 +39,7 @@ pub(crate) fn filled_case(cases: &[u8], at: usize) -> usize {
     let letter = field_at(cases, say_name(cases, at), Kind::Text, &mut fill);
     let length = number_at(cases, letter.next);
     let len = length.value as usize;
-    let mut page = [fill[0]; 65601];
+    let mut page = [fill[0]; INPUT_ROOM];
     let next = lay_ends(cases, length.next, len, &mut page);
     say_answer(first(&page, len));
     next

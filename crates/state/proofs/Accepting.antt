@@ -4,24 +4,25 @@ use mathlib.Core.Bool.{Bool, true, false, not}
 use mathlib.Core.List.{List, [], _∷_}
 use mathlib.Core.Option.{Option, some, none}
 use mathlib.Core.Path.{_≡_, refl, sym, _∙_, ap}
-use Prim.Native.Nat.{ℕ, _*_, _≤_}
+use Prim.Native.Nat.{ℕ, _+_, _*_, _≤_}
 use native.Mathlib.Nat.{mul-assoc}
 use native.Mathlib.Omega.{arith}
 use lib.Dec.{eqb, leb}
 use lib.ListN.{length, getD}
 use borrow.Author.Tests.{leb-true, eqb-true}
 use Rattle.counting.proofs.Joined.{clash, and-left, and-right, never}
+use Rattle.trail.specs.Trail.{markRoom}
 use Rattle.model.specs.declared.Verdict.the-variants.{Accepted}
 use Rattle.model.specs.declared.Search.{Search}
-use Rattle.model.specs.Limits.{lineLimit, triesLimit}
+use Rattle.model.specs.Limits.{lineRoom, lineLimit, triesLimit}
 use Rattle.model.specs.Pattern.{patternOf, lineTotal}
 use Rattle.model.specs.Walk.{Record, Rules, rulesOf, cuts, isEmpty}
 use Rattle.model.specs.State.{marksIn, bestIn, capsIn, recordOf, searchOf, areMarks, onesAllowed, beginningsValid, trailFine, bestFine, stateFine, countsFine}
 use Rattle.model.specs.Calls.{listVerdict}
 use Rattle.state.specs.Holding.{normalOf}
-use Rattle.matching.specs.Starts.{rowStart}
+use Rattle.matching.specs.Starts.{sideRoom, rowStart}
 use Rattle.bound.specs.Evaluated.{Placed}
-use Rattle.bound.proofs.Evaluations.{accepted-listed}
+use Rattle.bound.proofs.Evaluations.{listed-few, accepted-listed}
 use Rattle.model.proofs.Walk.Looked.{Looked}
 use Rattle.model.proofs.Theorems.Accepted.{list-accepted}
 use Rattle.model.proofs.Theorems.OfList.{rules-k}
@@ -93,12 +94,12 @@ unfolding recordOf bestIn
 best-some s h = ap (λ (b : Bool). bestIn b (s .best)) h
 
 -- so its trail and its best marking fit their arrays
-module _ (s : Search) (k : ℕ) (small : k ≤ 240) (f : Fits k (recordOf s)) where
-  pub trail-fits : s .trail .len ≤ 240
+module _ (s : Search) (k : ℕ) (small : k ≤ markRoom) (f : Fits k (recordOf s)) where
+  pub trail-fits : s .trail .len ≤ markRoom
   unfolding recordOf
   trail-fits = omega (arith, f .trail-fits, marks-length (s .trail))
 
-  pub best-fits : s .found ≡ true → s .best .len ≤ 240
+  pub best-fits : s .found ≡ true → s .best .len ≤ markRoom
   unfolding recordOf
   best-fits found = omega (arith, f .best-fits (marksIn (s .best)) (best-some s found), marks-length (s .best))
 
@@ -107,12 +108,12 @@ module _ (s : Search) (k : ℕ) (small : k ≤ 240) (f : Fits k (recordOf s)) wh
   fine-normal = normal-is s trail-fits best-fits
 
 -- a record whose markings fit reads back from its search
-pub fits-back : (k : ℕ) (r : Record) → k ≤ 240 → Fits k r → recordOf (searchOf r) ≡ r
+pub fits-back : (k : ℕ) (r : Record) → k ≤ markRoom → Fits k r → recordOf (searchOf r) ≡ r
 fits-back k r small f =
     record-back r (omega (arith, f .trail-fits)) (λ τ e. omega (arith, f .best-fits τ e))
 
 -- the tables of an accepted list are at hand
-accepted-few : (m n nonzeros : ℕ) (list : List ℕ) → listVerdict m n nonzeros list ≡ Accepted → lineTotal (patternOf m n nonzeros list) ≤ 2 * lineLimit
+accepted-few : (m n nonzeros : ℕ) (list : List ℕ) → listVerdict m n nonzeros list ≡ Accepted → lineTotal (patternOf m n nonzeros list) ≤ markRoom
 unfolding patternOf
 accepted-few m n nonzeros list h =
     few-lines (patternOf m n nonzeros list) (list-accepted m n nonzeros list h .rows-to) (list-accepted m n nonzeros list h .columns-to)
@@ -120,16 +121,18 @@ accepted-few m n nonzeros list h =
 pub accepted-ready :
     (m n nonzeros : ℕ) (list places starts : List ℕ) (k : ℕ) →
     listVerdict m n nonzeros list ≡ Accepted →
-    Placed (patternOf m n nonzeros list) places →
-    ((m n i : ℕ) → i ≤ 256 → getD starts i 0 ≡ rowStart (patternOf m n nonzeros list) i) →
-    k ≡ lineTotal (patternOf m n nonzeros list) →
+    (m + n ≤ lineRoom → Placed (patternOf m n nonzeros list) places) →
+    ((m n i : ℕ) → i ≤ sideRoom → getD starts i 0 ≡ rowStart (patternOf m n nonzeros list) i) →
+    (m + n ≤ lineRoom → k ≡ lineTotal (patternOf m n nonzeros list)) →
     Ready m n nonzeros list places starts k
 accepted-ready m n nonzeros list places starts k h placed started total =
+    let listed = accepted-listed m n nonzeros list starts h started in
+    let room = listed-few listed in
     record {
-      listed = accepted-listed m n nonzeros list starts h started;
-      placed = placed;
-      total = total;
-      few = omega (arith, total, accepted-few m n nonzeros list h);
+      listed = listed;
+      placed = placed room;
+      total = total room;
+      few = omega (arith, total room, accepted-few m n nonzeros list h);
     }
 
 pub fits-at : (j k : ℕ) (r : Record) → j ≡ k → Fits j r → Fits k r

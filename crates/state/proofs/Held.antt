@@ -7,6 +7,7 @@ use Prim.Native.Nat.{ℕ, _*_, _≤_}
 use native.Mathlib.Omega.{arith}
 use lib.ListN.{length}
 use Rattle.counting.proofs.Counted.{count-most}
+use Rattle.trail.specs.Trail.{markRoom}
 use Rattle.model.specs.Limits.{lineLimit}
 use Rattle.model.specs.Pattern.{Pattern, lines, nonempty, lineTotal}
 use Rattle.model.specs.Walk.{Record}
@@ -14,13 +15,13 @@ use Rattle.model.specs.State.{marksIn, bestIn, recordOf, trailOf, isFound, best
 use Rattle.model.proofs.State.Arrays.{array-stack}
 
 -- a marking in an array reads back
-pub marks-back : (τ : List ℕ) → length τ ≤ 2 * lineLimit → marksIn (trailOf τ) ≡ τ
+pub marks-back : (τ : List ℕ) → length τ ≤ markRoom → marksIn (trailOf τ) ≡ τ
 unfolding marksIn trailOf
 marks-back τ h = array-stack τ h
 
 -- a best marking, or none, reads back
 best-back :
-    (o : Option (List ℕ)) → ((τ : List ℕ) → o ≡ some τ → length τ ≤ 2 * lineLimit) →
+    (o : Option (List ℕ)) → ((τ : List ℕ) → o ≡ some τ → length τ ≤ markRoom) →
     bestIn (isFound o) (trailOf (bestOr o)) ≡ o
 unfolding bestIn isFound bestOr
 best-back none h = refl
@@ -28,8 +29,8 @@ best-back (some τ) h = ap some (marks-back τ (h τ refl))
 
 -- a record whose markings fit reads back
 pub record-back :
-    (r : Record) → length (r .trail) ≤ 2 * lineLimit →
-    ((τ : List ℕ) → r .best ≡ some τ → length τ ≤ 2 * lineLimit) → recordOf (searchOf r) ≡ r
+    (r : Record) → length (r .trail) ≤ markRoom →
+    ((τ : List ℕ) → r .best ≡ some τ → length τ ≤ markRoom) → recordOf (searchOf r) ≡ r
 unfolding recordOf searchOf
 record-back r short best =
     λ i. record {
@@ -45,7 +46,7 @@ record-back r short best =
       trail = marks-back (r .trail) short i;
     }
 
--- a pattern of at most 120 rows and 120 columns has at most 240 lines with nonzeros
-pub few-lines : (P : Pattern) → P .m ≤ lineLimit → P .n ≤ lineLimit → lineTotal P ≤ 2 * lineLimit
+-- a pattern of at most lineLimit rows and lineLimit columns has at most markRoom lines with nonzeros
+pub few-lines : (P : Pattern) → P .m ≤ lineLimit → P .n ≤ lineLimit → lineTotal P ≤ markRoom
 unfolding lineTotal lines
 few-lines P h g = omega (arith, count-most (nonempty P) (lines P))

@@ -6,15 +6,16 @@ use mathlib.Core.Path.{_≡_, refl, sym, _∙_}
 use Prim.Native.Nat.{_≤_}
 use borrow.Author.Tests.{le-ltb}
 use Rattle.counting.proofs.Joined.{pick-true, pick-false}
+use Rattle.trail.specs.Trail.{markRoom}
 use Rattle.trail.specs.declared.Trail.{Trail}
 use Rattle.model.specs.declared.Search.{Search}
 use Rattle.model.specs.State.{marksIn, trailOf, bestIn, isFound, bestOr, recordOf, searchOf}
 use Rattle.state.specs.Holding.{clearedTo, bestTo, normalOf}
 
 -- a trail that fits its array
-pub cleared-is : (trail : Trail) → trail .len ≤ 240 → clearedTo trail ≡ trailOf (marksIn trail)
+pub cleared-is : (trail : Trail) → trail .len ≤ markRoom → clearedTo trail ≡ trailOf (marksIn trail)
 unfolding clearedTo
-cleared-is trail h = pick-false (trailOf []) (trailOf (marksIn trail)) (le-ltb 240 (trail .len) h)
+cleared-is trail h = pick-false (trailOf []) (trailOf (marksIn trail)) (le-ltb markRoom (trail .len) h)
 
 found-is : (found : Bool) (best : Trail) → isFound (bestIn found best) ≡ found
 unfolding isFound bestIn
@@ -23,7 +24,7 @@ found-is false best = refl
 
 -- a best marking that fits its array, or none
 best-is :
-    (found : Bool) (best : Trail) → (found ≡ true → best .len ≤ 240) →
+    (found : Bool) (best : Trail) → (found ≡ true → best .len ≤ markRoom) →
     bestTo found best ≡ trailOf (bestOr (bestIn found best))
 unfolding bestTo bestIn bestOr
 best-is true best h = pick-true (clearedTo best) (trailOf []) refl ∙ cleared-is best (h refl)
@@ -31,7 +32,7 @@ best-is false best h = pick-false (clearedTo best) (trailOf []) refl
 
 -- a search whose markings fit their arrays
 pub normal-is :
-    (s : Search) → s .trail .len ≤ 240 → (s .found ≡ true → s .best .len ≤ 240) →
+    (s : Search) → s .trail .len ≤ markRoom → (s .found ≡ true → s .best .len ≤ markRoom) →
     normalOf s ≡ searchOf (recordOf s)
 unfolding normalOf searchOf recordOf
 normal-is s short best =

@@ -12,7 +12,7 @@ use borrow.Author.Tests.{eq-eqb, ne-eqb, eqb-true, leb-true, not-true}
 use Rattle.counting.specs.Tests.{_and_, pick}
 use Rattle.counting.proofs.Joined.{no-way, clash, and-left, and-right, pick-true, pick-false, and-turned, and-all}
 use Rattle.trail.specs.declared.Trail.{Trail}
-use Rattle.trail.specs.Trail.{markOr}
+use Rattle.trail.specs.Trail.{markRoom, markOr}
 use Rattle.model.specs.declared.Search.{Search}
 use Rattle.model.specs.Split.{capsOutside}
 use Rattle.model.specs.Walk.{Rules, cuts, isEmpty}
@@ -23,19 +23,19 @@ use Rattle.state.specs.Legal.{marksLegal, onesLegal, cutsIn}
 use Rattle.state.specs.StateBy.{trailBy, fullBy, bestBy, numbersBy}
 
 -- the marks of an array before an index that it has
-marks-are : (trail : Trail) → trail .len ≤ 240 → stack (markOr 0 (trail .marks)) (trail .len) ≡ marksIn trail
+marks-are : (trail : Trail) → trail .len ≤ markRoom → stack (markOr 0 (trail .marks)) (trail .len) ≡ marksIn trail
 unfolding marksIn
 marks-are trail b = marks-before (trail .marks) (trail .len) b
 
-legal-is : (trail : Trail) → trail .len ≤ 240 → marksLegal (trail .marks) (trail .len) ≡ areMarks (marksIn trail)
+legal-is : (trail : Trail) → trail .len ≤ markRoom → marksLegal (trail .marks) (trail .len) ≡ areMarks (marksIn trail)
 unfolding marksLegal
 legal-is trail b = ap areMarks (marks-are trail b)
 
-ones-are : (first : Bool) (trail : Trail) → trail .len ≤ 240 → onesLegal first (trail .marks) (trail .len) ≡ onesAllowed first (marksIn trail)
+ones-are : (first : Bool) (trail : Trail) → trail .len ≤ markRoom → onesLegal first (trail .marks) (trail .len) ≡ onesAllowed first (marksIn trail)
 unfolding onesLegal
 ones-are first trail b = ap (onesAllowed first) (marks-are trail b)
 
-pub cuts-is : (trail : Trail) → trail .len ≤ 240 → cutsIn (trail .marks) (trail .len) ≡ cuts (marksIn trail)
+pub cuts-is : (trail : Trail) → trail .len ≤ markRoom → cutsIn (trail .marks) (trail .len) ≡ cuts (marksIn trail)
 unfolding cutsIn
 cuts-is trail b = ap cuts (marks-are trail b)
 
@@ -88,7 +88,7 @@ moved false v l z v′ l′ z′ h = refl
 
 -- an empty trail exactly if complete; else as asked, where its longest proper beginning says whether all are valid
 pub trail-is :
-    (R : Rules) (complete : Bool) (trail : Trail) (valid : Bool) → R .k ≤ 240 →
+    (R : Rules) (complete : Bool) (trail : Trail) (valid : Bool) → R .k ≤ markRoom →
     (1 ≤ trail .len → trail .len ≤ R .k → valid ≡ beginningsValid R (marksIn trail)) →
     trailBy complete trail (R .k) valid (R .oneFirst) ≡ trailFine R complete (marksIn trail)
 unfolding trailBy trailFine
@@ -114,7 +114,7 @@ trail-is R false trail valid small v =
     ))
 
 full-is :
-    (R : Rules) (best : Trail) (valid : Bool) (count : ℕ) → R .k ≤ 240 →
+    (R : Rules) (best : Trail) (valid : Bool) (count : ℕ) → R .k ≤ markRoom →
     (best .len ≡ R .k → valid ≡ R .valid (marksIn best)) →
     fullBy best (R .k) valid count
     ≡ eqb (length (marksIn best)) (R .k) and areMarks (marksIn best) and R .valid (marksIn best) and eqb (cuts (marksIn best)) count
@@ -134,7 +134,7 @@ full-is R best valid count small v =
     (v e, legal-is best (omega arith), ap (λ (n : ℕ). eqb n count) (cuts-is best (omega arith))))
 
 best-by :
-    (R : Rules) (s : Search) (valid : Bool) → R .k ≤ 240 →
+    (R : Rules) (s : Search) (valid : Bool) → R .k ≤ markRoom →
     (s .found ≡ true → s .best .len ≡ R .k → valid ≡ R .valid (marksIn (s .best))) →
     (found : Bool) → s .found ≡ found →
     pick found (fullBy (s .best) (R .k) valid (s .«best_count»)) (not (s .complete) and eqb (s .«best_count») (R .k + 1))
@@ -149,7 +149,7 @@ best-by R s valid small v false e =
 
 -- a best marking as it should be, or none
 pub best-is :
-    (R : Rules) (s : Search) (valid : Bool) → R .k ≤ 240 →
+    (R : Rules) (s : Search) (valid : Bool) → R .k ≤ markRoom →
     (s .found ≡ true → s .best .len ≡ R .k → valid ≡ R .valid (marksIn (s .best))) →
     bestBy s (R .k) valid ≡ bestFine R (bestIn (s .found) (s .best)) (s .«best_count») (s .complete)
 unfolding bestBy

@@ -9,7 +9,7 @@ use lib.ListN.{length, getD}
 use Rattle.counting.specs.Tests.{_and_}
 use Rattle.counting.proofs.Joined.{both-ways, and-intro, and-left}
 use Rattle.trail.specs.declared.Trail.{Trail}
-use Rattle.trail.specs.Trail.{dropped}
+use Rattle.trail.specs.Trail.{markRoom, dropped}
 use Rattle.trail.proofs.Methods.{dropped-length}
 use Rattle.model.specs.declared.Caps.{Caps}
 use Rattle.model.specs.declared.Search.{Search}
@@ -56,7 +56,7 @@ longest-speaks P caps x τ i =
 
 -- of a trail too, without its last mark
 pub trail-speaks :
-    (P : Pattern) (caps : Caps) (trail : Trail) (d : ℕ) (v : Bool) → Inside P → trail .len ≡ suc d → d < 240 →
+    (P : Pattern) (caps : Caps) (trail : Trail) (d : ℕ) (v : Bool) → Inside P → trail .len ≡ suc d → d < markRoom →
     v ≡ valid P caps (marking P (marksIn (dropped trail))) → v ≡ beginningsValid (rulesOf P caps) (marksIn trail)
 unfolding rulesOf
 trail-speaks P caps trail d v i long b e =
@@ -69,9 +69,9 @@ pub valid-cleared :
     (m n nonzeros : ℕ) (list places starts : List ℕ) (caps : Caps) (trail kept : Trail) (j : Evaluation) →
     kept ≡ clearedTo trail →
     (Listed m n nonzeros list starts → Placed (patternOf m n nonzeros list) places →
-    (τ : List ℕ) → length τ ≤ 240 → kept .marks ≡ arrayOf τ → kept .len ≡ length τ →
+    (τ : List ℕ) → length τ ≤ markRoom → kept .marks ≡ arrayOf τ → kept .len ≡ length τ →
     Evaluates (patternOf m n nonzeros list) caps (marking (patternOf m n nonzeros list) τ) j) →
-    Listed m n nonzeros list starts → Placed (patternOf m n nonzeros list) places → trail .len ≤ 240 →
+    Listed m n nonzeros list starts → Placed (patternOf m n nonzeros list) places → trail .len ≤ markRoom →
     j .valid ≡ valid (patternOf m n nonzeros list) caps (marking (patternOf m n nonzeros list) (marksIn trail))
 unfolding trailOf
 valid-cleared m n nonzeros list places starts caps trail kept j e judged listed placed b =
@@ -89,10 +89,10 @@ valid-cleared m n nonzeros list places starts caps trail kept j e judged listed 
 pub record Checked (m n nonzeros : ℕ) (list places starts : List ℕ) (k : ℕ) (s : Search) (beginning : Trail) (begins full numbers trail best : Bool) : Type 0 where
   pub short : beginning ≡ dropped (s .trail)
   pub begins-is :
-      Listed m n nonzeros list starts → Placed (patternOf m n nonzeros list) places → beginning .len ≤ 240 →
+      Listed m n nonzeros list starts → Placed (patternOf m n nonzeros list) places → beginning .len ≤ markRoom →
       begins ≡ valid (patternOf m n nonzeros list) (capsIn s) (marking (patternOf m n nonzeros list) (marksIn beginning))
   pub full-is :
-      Listed m n nonzeros list starts → Placed (patternOf m n nonzeros list) places → s .best .len ≤ 240 →
+      Listed m n nonzeros list starts → Placed (patternOf m n nonzeros list) places → s .best .len ≤ markRoom →
       full ≡ valid (patternOf m n nonzeros list) (capsIn s) (marking (patternOf m n nonzeros list) (marksIn (s .best)))
   pub numbers-are : numbers ≡ numbersBy s m n nonzeros
   pub trail-test : trail ≡ trailBy (s .complete) (s .trail) k begins (unequal (capsIn s))
@@ -114,7 +114,7 @@ checked-is m n nonzeros list places starts k s beginning begins full numbers tra
     k-is : rulesOf P (capsIn s) .k ≡ k
     k-is = rules-k P (capsIn s) ∙ sym (ready .total)
 
-    few : rulesOf P (capsIn s) .k ≤ 240
+    few : rulesOf P (capsIn s) .k ≤ markRoom
     few = omega (arith, k-is, ready .few)
 
     trail-fine : trail ≡ trailFine (rulesOf P (capsIn s)) (s .complete) (marksIn (s .trail))
@@ -131,7 +131,7 @@ checked-is m n nonzeros list places starts k s beginning begins full numbers tra
         (λ some short.
         let d = s .trail .len - 1 in
         let long : s .trail .len ≡ suc d = omega arith in
-        let inside : d < 240 = omega (arith, few) in
+        let inside : d < markRoom = omega (arith, few) in
         trail-speaks
         P
         (capsIn s)

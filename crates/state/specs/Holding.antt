@@ -4,13 +4,14 @@ use mathlib.Core.Bool.{Bool}
 use mathlib.Core.List.{[]}
 use lib.Dec.{ltb}
 use Rattle.counting.specs.Tests.{pick}
+use Rattle.trail.specs.Trail.{markRoom}
 use Rattle.trail.specs.declared.Trail.{Trail}
 use Rattle.model.specs.declared.Search.{Search}
 use Rattle.model.specs.State.{marksIn, trailOf}
 
 -- a trail with 0 past its length, or none where it does not fit its array
 unfoldable pub clearedTo : Trail → Trail
-clearedTo trail = pick (ltb 240 (trail .len)) (trailOf []) (trailOf (marksIn trail))
+clearedTo trail = pick (ltb markRoom (trail .len)) (trailOf []) (trailOf (marksIn trail))
 
 -- the best marking where there is one
 unfoldable pub bestTo : Bool → Trail → Trail

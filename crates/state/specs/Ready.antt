@@ -5,6 +5,7 @@ use mathlib.Core.Option.{some}
 use mathlib.Core.Path.{_≡_}
 use Prim.Native.Nat.{ℕ, _≤_}
 use lib.ListN.{length}
+use Rattle.trail.specs.Trail.{markRoom}
 use Rattle.model.specs.Pattern.{patternOf, lineTotal}
 use Rattle.model.specs.Walk.{Record}
 use Rattle.bound.specs.Evaluated.{Listed, Placed}
@@ -14,7 +15,7 @@ pub record Ready (m n nonzeros : ℕ) (list places starts : List ℕ) (k : ℕ) 
   pub listed : Listed m n nonzeros list starts
   pub placed : Placed (patternOf m n nonzeros list) places
   pub total : k ≡ lineTotal (patternOf m n nonzeros list)
-  pub few : k ≤ 240
+  pub few : k ≤ markRoom
 
 -- a record whose markings have at most k marks
 pub record Fits (k : ℕ) (r : Record) : Type 0 where

@@ -7,11 +7,17 @@ use bound::evaluating::evaluate;
 use counting::joining::both_of;
 use model::Caps;
 use model::Search;
+use model::limits::LINE_LIMIT;
+use model::limits::LINE_ROOM;
+use model::limits::NONZERO_LIMIT;
+use model::limits::SIDE_ENDS;
 use pattern::cap::unequal_caps;
 use pattern::reading::wide16;
 use trail::Trail;
 ghost use mathlib.Core.Path.{_≡_};
 ghost use Prim.Native.Nat.{_≤_};
+ghost use Rattle.trail.specs.Trail.{markRoom};
+ghost use Rattle.model.specs.Limits.{lineLimit, nonzeroLimit};
 ghost use Rattle.model.specs.Pattern.{patternOf};
 ghost use Rattle.model.specs.Walk.{rulesOf};
 ghost use Rattle.model.specs.Marking.{marking, valid};
@@ -22,16 +28,16 @@ ghost use Rattle.state.specs.Ready.{Ready};
 // The marking that a trail holds is valid.
 fn valid_of(
     trail: Trail,
-    m: u8,
-    n: u8,
+    m: u16,
+    n: u16,
     nonzeros: u16,
     list: &[u8],
     caps: Caps,
-    places: &[u16; 512],
-    starts: &[u16; 257],
+    places: &[u16; LINE_ROOM],
+    starts: &[u16; SIDE_ENDS],
 ) -> bool
     ensures { λ v. ⌜ (Listed m n nonzeros (now (list .entry)) (now (starts .entry)) →
-        Placed (patternOf m n nonzeros (now (list .entry))) (now (places .entry)) → trail .len ≤ 240 →
+        Placed (patternOf m n nonzeros (now (list .entry))) (now (places .entry)) → trail .len ≤ markRoom →
         v ≡ valid (patternOf m n nonzeros (now (list .entry))) caps (marking (patternOf m n nonzeros (now (list .entry))) (marksIn trail))) ⌝ }
 {
     let kept = cleared(trail);
@@ -41,17 +47,18 @@ fn valid_of(
     judged.valid
 }
 
-// The state check of refusal 14, with the tables of an accepted list.
-pub fn state_fine(
+// The state check of refusal 14, with the tables of an accepted list, where m and N are in range.
+fn ranged_fine(
     search: Search,
-    m: u8,
-    n: u8,
+    m: u16,
+    n: u16,
     nonzeros: u16,
     list: &[u8],
-    places: &[u16; 512],
-    starts: &[u16; 257],
+    places: &[u16; LINE_ROOM],
+    starts: &[u16; SIDE_ENDS],
     k: u16,
 ) -> bool
+    requires { ⌜ (m ≤ lineLimit) × (nonzeros ≤ nonzeroLimit) ⌝ }
     ensures { λ v. ⌜ (Ready m n nonzeros (now (list .entry)) (now (places .entry)) (now (starts .entry)) k →
         v ≡ stateFine (rulesOf (patternOf m n nonzeros (now (list .entry))) (capsIn search)) m n nonzeros (recordOf search)) ⌝ }
 {
@@ -73,4 +80,27 @@ pub fn state_fine(
     );
     let best = best_fine(search, k, full);
     both_of(both_of(numbers, trail), best)
+}
+
+// The state check of refusal 14, with the tables of an accepted list.
+pub fn state_fine(
+    search: Search,
+    m: u16,
+    n: u16,
+    nonzeros: u16,
+    list: &[u8],
+    places: &[u16; LINE_ROOM],
+    starts: &[u16; SIDE_ENDS],
+    k: u16,
+) -> bool
+    ensures { λ v. ⌜ (Ready m n nonzeros (now (list .entry)) (now (places .entry)) (now (starts .entry)) k →
+        v ≡ stateFine (rulesOf (patternOf m n nonzeros (now (list .entry))) (capsIn search)) m n nonzeros (recordOf search)) ⌝ }
+{
+    if LINE_LIMIT < m as u64 {
+        return false;
+    }
+    if NONZERO_LIMIT < nonzeros as u64 {
+        return false;
+    }
+    ranged_fine(search, m, n, nonzeros, list, places, starts, k)
 }

@@ -4,10 +4,12 @@ use crate::legal::cuts_before;
 use crate::legal::ones_allowed;
 use model::Caps;
 use model::Search;
+use model::limits::TRIES_LIMIT;
 use pattern::cap::caps_outside;
 use trail::Trail;
 ghost use mathlib.Core.Path.{_≡_};
 ghost use Prim.Native.Nat.{_≤_};
+ghost use Rattle.model.specs.Limits.{lineLimit, nonzeroLimit};
 ghost use Rattle.model.specs.State.{countsFine};
 ghost use Rattle.state.specs.StateBy.{trailBy, fullBy, bestBy, numbersBy};
 
@@ -65,12 +67,12 @@ pub(crate) fn best_fine(search: Search, k: u16, valid: bool) -> bool
     count == (k as u64) + 1
 }
 
-// Tries are in range, and looks are at most tries × m × N. N is at most the sum of two caps, so that the product fits.
+// Tries are in range, and looks are at most tries × m × N; the product fits where m and N are in range.
 fn counts_fine(tries: u64, looks: u64, m: u64, nonzeros: u64) -> bool
-    requires { ⌜ (m ≤ 255) × (nonzeros ≤ 4000) ⌝ }
+    requires { ⌜ (m ≤ lineLimit) × (nonzeros ≤ nonzeroLimit) ⌝ }
     ensures { λ r. ⌜ r ≡ countsFine tries looks m nonzeros ⌝ }
 {
-    if 10_000_000_000_000 < tries {
+    if TRIES_LIMIT < tries {
         return false;
     }
     looks <= tries * m * nonzeros
@@ -78,7 +80,7 @@ fn counts_fine(tries: u64, looks: u64, m: u64, nonzeros: u64) -> bool
 
 // The numbers of a state: m, n and N are the list's, N is at most cap 0 + cap 1, and caps, tries and looks are in range.
 pub(crate) fn numbers_fine(search: Search, m: u64, n: u64, nonzeros: u64) -> bool
-    requires { ⌜ m ≤ 255 ⌝ }
+    requires { ⌜ (m ≤ lineLimit) × (nonzeros ≤ nonzeroLimit) ⌝ }
     ensures { λ r. ⌜ r ≡ numbersBy search m n nonzeros ⌝ }
 {
     let rows = search.m;

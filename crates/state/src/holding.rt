@@ -2,6 +2,7 @@
 use model::Caps;
 use model::Search;
 use pattern::reading::long16;
+use trail::MARK_ROOM;
 use trail::Trail;
 ghost use mathlib.Core.Path.{_≡_};
 ghost use mathlib.Core.List.{[], _∷_};
@@ -12,10 +13,10 @@ ghost use Rattle.model.specs.Calls.{completeNumber, noRecord};
 ghost use Rattle.state.specs.Holding.{clearedTo, bestTo, normalOf};
 
 // No marks.
-fn no_marks() -> [u8; 240]
+fn no_marks() -> [u8; MARK_ROOM]
     ensures { λ r. ⌜ r ≡ arrayOf [] ⌝ }
 {
-    [0u8; 240]
+    [0u8; MARK_ROOM]
 }
 
 // No marking.
@@ -32,7 +33,7 @@ pub fn cleared(trail: Trail) -> Trail
 {
     let marks = trail.marks;
     let len = trail.len;
-    if 240 < len {
+    if MARK_ROOM < len {
         return no_trail();
     }
     let mut kept = no_marks();

@@ -1,4 +1,5 @@
 // The marks of a trail: legal ones, each 0, 1 or cut with mark 1 only where it is allowed, and the number cut.
+use trail::MARK_ROOM;
 use trail::is_part;
 use trail::mark_at;
 ghost use mathlib.Core.Path.{_≡_};
@@ -7,7 +8,7 @@ ghost use Rattle.trail.specs.Trail.{isPart};
 ghost use Rattle.state.specs.Legal.{marksLegal, onesLegal, oneDenied, cutsIn};
 
 // Each mark before an index is 0, 1 or cut.
-pub(crate) fn are_marks(marks: &[u8; 240], end: usize) -> bool
+pub(crate) fn are_marks(marks: &[u8; MARK_ROOM], end: usize) -> bool
     ensures { λ r. ⌜ r ≡ marksLegal (now (marks .entry)) end ⌝ }
 {
     let mut i = 0;
@@ -38,7 +39,7 @@ fn allowed_behind(mark: u8, allowed: bool) -> bool
 }
 
 // Mark 1 stands before an index only where it is allowed: it may come first, or some earlier mark is 0 or 1.
-pub(crate) fn ones_allowed(marks: &[u8; 240], end: usize, first: bool) -> bool
+pub(crate) fn ones_allowed(marks: &[u8; MARK_ROOM], end: usize, first: bool) -> bool
     ensures { λ r. ⌜ r ≡ onesLegal first (now (marks .entry)) end ⌝ }
 {
     let mut allowed = first;
@@ -55,7 +56,7 @@ pub(crate) fn ones_allowed(marks: &[u8; 240], end: usize, first: bool) -> bool
 }
 
 // The number of marks cut before an index.
-pub fn cuts_before(marks: &[u8; 240], end: usize) -> u64
+pub fn cuts_before(marks: &[u8; MARK_ROOM], end: usize) -> u64
     ensures { λ r. ⌜ r ≡ cutsIn (now (marks .entry)) end ⌝ }
 {
     let mut cuts = 0u64;

@@ -4,6 +4,7 @@
 // divorce, cage5, mesh1e1 and chesapeake are read off pictures of the patterns; steam3's stored zeros are restored by filling its 4 by 4 blocks, which is an inference.
 // Then the symmetric form of each symmetric pattern, with a budget of 25,000, which is enough for karate: what it gives is held byte by byte
 // against what the general form gives. mesh1e1 has a form with values too, which are made up.
+use answering::OUTPUT_ROOM;
 use answering::splitting::answer;
 use libc::STDOUT_FILENO;
 use pattern::reading::byte_at;
@@ -69,7 +70,7 @@ fn answer_named(name: &[u8], order: &[u8; 25], out: &mut [u8]) {
 
 // Prints the name of a file and the figures of its split.
 fn print_file(name: &[u8]) {
-    let mut out = [0u8; 32768];
+    let mut out = [0u8; OUTPUT_ROOM];
     answer_named(name, b"percent 3 budget 1000000\n", &mut out);
     io::write_all(STDOUT_FILENO, name);
     io::write_all(STDOUT_FILENO, b": ");
@@ -78,14 +79,14 @@ fn print_file(name: &[u8]) {
 
 // Prints the names of two forms of a pattern, and the figures of their split where both give the same bytes.
 fn print_forms(general: &[u8], other: &[u8]) {
-    let mut first = [0u8; 32768];
-    let mut second = [0u8; 32768];
+    let mut first = [0u8; OUTPUT_ROOM];
+    let mut second = [0u8; OUTPUT_ROOM];
     answer_named(general, b"percent 3 budget 0025000\n", &mut first);
     answer_named(other, b"percent 3 budget 0025000\n", &mut second);
     io::write_all(STDOUT_FILENO, general);
     io::write_all(STDOUT_FILENO, b" and ");
     io::write_all(STDOUT_FILENO, other);
-    if same_word(&first, 0, 32768, false, &second) {
+    if same_word(&first, 0, OUTPUT_ROOM, false, &second) {
         io::write_all(STDOUT_FILENO, b", the same: ");
         print_figures(&second);
     } else {

@@ -1,22 +1,24 @@
 -- The fields of cases, one letter or one byte after the other.
 -- Assumes nothing.
 use mathlib.Core.Bool.{Bool, true, false}
-use mathlib.Core.List.{List}
+use mathlib.Core.List.{List, [], _∷_}
+use mathlib.Core.Logic.{_⊎_, ⊎-elim}
 use mathlib.Core.Path.{_≡_, refl, sym, _∙_}
-use Prim.Native.Nat.{ℕ, zero, suc, _≤_, _<_, _+_, _-_, _%_}
+use Prim.Native.Nat.{ℕ, zero, suc, _≤_, _<_, _+_, _-_, _/_, _%_}
 use native.Mathlib.Numerals.{add-one}
 use native.Mathlib.Omega.{arith}
 use borrow.Author.Tests.{eq-eqb, ne-eqb}
 use denote.Enum.Declared.{tagOf, declared}
-use lib.ListN.{length, getD, set, drop, drop-of-length-le}
+use lib.ListN.{length, getD, drop, drop-of-length-le}
 use lib.Seq.{drop-cons}
 use Rattle.counting.specs.Tests.{pick}
 use Rattle.counting.proofs.Joined.{no-way, pick-true, pick-false}
 use Rattle.testing.proofs.Kind.{enum}
 use Rattle.testing.specs.declared.Field.{Field}
 use Rattle.testing.specs.declared.Kind.{Kind}
-use Rattle.testing.specs.declared.Kind.the-variants.{Text, Numbers}
-use Rattle.testing.specs.Cases.{endsField, placeNext, fieldOf, escapedByte, letterGiven, isDigit, grown, digitsFrom, digitsAt, numberGiven, byteGiven, fieldFrom, fieldAt}
+use Rattle.testing.specs.declared.Kind.the-variants.{Text, Numbers, Lines}
+use Rattle.testing.specs.Laid.{placePast, laid}
+use Rattle.testing.specs.Cases.{endsField, placeNext, fieldOf, escapedByte, letterGiven, isDigit, grown, digitsFrom, digitsAt, numberGiven, given, bytesOf, fieldFrom, fieldAt, listAt}
 
 -- a letter that is no backslash stands for itself
 pub letter-plain : (cases : List ℕ) (at letter value : ℕ) → letter ≡ getD cases at 10 → (letter ≡ 92 → ⊥) → value ≡ letter → fieldOf cases value at ≡ letterGiven cases at
@@ -53,15 +55,29 @@ pub number-more : (cases : List ℕ) (at : ℕ) (digits : Field) {letter : ℕ} 
 unfolding numberGiven
 number-more cases at digits d here e ends = rw (← d) (sym (pick-false _ _ (rw here at (sym e ∙ ends))))
 
--- the byte that is given by a letter
-pub given-letter : (kind : Kind) (cases : List ℕ) (at : ℕ) → tagOf (declared enum) kind ≡ 0 → letterGiven cases at ≡ byteGiven cases at kind
+-- what is given by a letter
+pub given-letter : (kind : Kind) (cases : List ℕ) (at : ℕ) → tagOf (declared enum) kind ≡ 0 → letterGiven cases at ≡ given cases at kind
 given-letter Text cases at h = refl
 given-letter Numbers cases at h = no-way (omega arith)
+given-letter Lines cases at h = no-way (omega arith)
 
--- the byte that is given by a number
-pub given-number : (kind : Kind) (cases : List ℕ) (at : ℕ) → tagOf (declared enum) kind ≡ 1 → numberGiven cases at ≡ byteGiven cases at kind
-given-number Text cases at h = no-way (omega arith)
+-- what is given by a number
+pub given-number : (kind : Kind) (cases : List ℕ) (at : ℕ) → (tagOf (declared enum) kind ≡ 1) ⊎ (tagOf (declared enum) kind ≡ 2) → numberGiven cases at ≡ given cases at kind
+given-number Text cases at h = no-way (⊎-elim (λ e. omega arith) (λ e. omega arith) h)
 given-number Numbers cases at h = refl
+given-number Lines cases at h = refl
+
+-- it is one byte
+pub one-byte : (kind : Kind) (value : ℕ) → (tagOf (declared enum) kind ≡ 0) ⊎ (tagOf (declared enum) kind ≡ 1) → (value % 256 ∷ []) ≡ bytesOf kind value
+one-byte Text value h = refl
+one-byte Numbers value h = refl
+one-byte Lines value h = no-way (⊎-elim (λ e. omega arith) (λ e. omega arith) h)
+
+-- it is the two bytes of a row or column number
+pub two-bytes : (kind : Kind) (value : ℕ) → tagOf (declared enum) kind ≡ 2 → (value % 256 ∷ value / 256 % 256 ∷ []) ≡ bytesOf kind value
+two-bytes Text value h = no-way (omega arith)
+two-bytes Numbers value h = no-way (omega arith)
+two-bytes Lines value h = refl
 
 -- a field from its start on
 pub field-all : (kind : Kind) (cases page : List ℕ) (at : ℕ) → fieldFrom kind cases page 0 at (length cases - 0) ≡ fieldAt kind cases at page
@@ -74,16 +90,26 @@ unfolding fieldFrom
 field-here kind cases page len at zero e = refl
 field-here kind cases page len at (suc k) e = pick-true _ _ e
 
--- it goes on over the byte that is given
-pub field-on : (kind : Kind) (cases page : List ℕ) (len at n : ℕ) (given : Field) → len < n → endsField (getD cases at 10) ≡ false → given ≡ byteGiven cases at kind → fieldFrom kind cases page len at (n - len) ≡ fieldFrom kind cases (set page len (given .value % 256)) (len + 1) (given .next) (n - (len + 1))
+-- it goes on over what is given
+pub field-on : (kind : Kind) (cases page : List ℕ) (len at turn n : ℕ) (next : Field) → turn < n → endsField (getD cases at 10) ≡ false → next ≡ given cases at kind → fieldFrom kind cases page len at (n - turn) ≡ fieldFrom kind cases (laid page len (bytesOf kind (next .value))) (placePast len (bytesOf kind (next .value))) (next .next) (n - (turn + 1))
 unfolding fieldFrom
-field-on kind cases page len at n given h e g =
-    let left : n - len ≡ suc (n - (len + 1)) = omega (arith, h) in
+field-on kind cases page len at turn n next h e g =
+    let left : n - turn ≡ suc (n - (turn + 1)) = omega (arith, h) in
     rw (left, g) (pick-false _ _ e)
 
--- it ends with the last byte that is looked at
-pub field-over : (kind : Kind) (cases page : List ℕ) (len at n : ℕ) → n ≤ len → fieldFrom kind cases page len at (n - len) ≡ (fieldOf cases len at, page)
+-- it ends with the last turn
+pub field-over : (kind : Kind) (cases page : List ℕ) (len at turn n : ℕ) → n ≤ turn → fieldFrom kind cases page len at (n - turn) ≡ (fieldOf cases len at, page)
 unfolding fieldFrom
-field-over kind cases page len at n h =
-    let none : n - len ≡ zero = omega (arith, h) in
+field-over kind cases page len at turn n h =
+    let none : n - turn ≡ zero = omega (arith, h) in
     rw none
+
+-- a list given by its bytes
+pub list-bytes : (cases page : List ℕ) (at letter blank start : ℕ) → letter ≡ getD cases at 10 → letter ≡ 98 → blank ≡ placeNext cases at → start ≡ placeNext cases blank → fieldAt Numbers cases start page ≡ listAt cases at page
+unfolding listAt
+list-bytes cases page at letter blank start here b after s = rw (s, after) (sym (pick-true _ _ (rw here at (eq-eqb letter 98 b))))
+
+-- a list given by its row and column numbers
+pub list-lines : (cases page : List ℕ) (at letter : ℕ) → letter ≡ getD cases at 10 → (letter ≡ 98 → ⊥) → fieldAt Lines cases at page ≡ listAt cases at page
+unfolding listAt
+list-lines cases page at letter here other = sym (pick-false _ _ (rw here at (ne-eqb letter 98 other)))

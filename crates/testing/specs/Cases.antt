@@ -2,14 +2,14 @@
 -- Assumes nothing.
 use mathlib.Core.Bool.{Bool}
 use mathlib.Core.List.{List, [], _∷_}
-use Prim.Native.Nat.{ℕ, zero, suc, _+_, _-_, _*_, _%_}
+use Prim.Native.Nat.{ℕ, zero, suc, _+_, _-_, _*_, _/_, _%_}
 use lib.Dec.{eqb, ltb, leb}
-use lib.ListN.{length, getD, set, take, drop, replicate}
+use lib.ListN.{length, getD, take, drop, replicate}
 use Rattle.counting.specs.Tests.{_and_, _or_, pick}
-use Rattle.testing.specs.Laid.{laid}
+use Rattle.testing.specs.Laid.{placePast, laid}
 use Rattle.testing.specs.declared.Field.{Field}
 use Rattle.testing.specs.declared.Kind.{Kind}
-use Rattle.testing.specs.declared.Kind.the-variants.{Text, Numbers}
+use Rattle.testing.specs.declared.Kind.the-variants.{Text, Numbers, Lines}
 
 -- a bar or a line feed ends a field
 abbrev pub endsField : ℕ → Bool
@@ -62,21 +62,34 @@ numberGiven cases at =
     let digits = digitsAt cases at in
     pick (endsField (getD cases (digits .next) 10)) digits (fieldOf cases (digits .value) (digits .next))
 
--- the byte that is given at a place, and where the field goes on
-abbrev pub byteGiven : List ℕ → ℕ → Kind → Field
-byteGiven cases at Text = letterGiven cases at
-byteGiven cases at Numbers = numberGiven cases at
+-- the byte or the number that is given at a place, and where the field goes on
+abbrev pub given : List ℕ → ℕ → Kind → Field
+given cases at Text = letterGiven cases at
+given cases at Numbers = numberGiven cases at
+given cases at Lines = numberGiven cases at
 
--- a field and a page with its bytes laid out from place `len` on, looking at so many of them
+-- the bytes of what is given: one, or a row or column number's two, lowest first
+abbrev pub bytesOf : Kind → ℕ → List ℕ
+bytesOf Text value = value % 256 ∷ []
+bytesOf Numbers value = value % 256 ∷ []
+bytesOf Lines value = value % 256 ∷ value / 256 % 256 ∷ []
+
+-- a field and a page with its bytes laid out from place `len` on, for so many letters or numbers at most
 unfoldable pub fieldFrom : Kind → List ℕ → List ℕ → ℕ → ℕ → ℕ → Field × List ℕ
 fieldFrom kind cases page len at zero = (fieldOf cases len at, page)
 fieldFrom kind cases page len at (suc k) =
-    let given = byteGiven cases at kind in
-    pick (endsField (getD cases at 10)) (fieldOf cases len at, page) (fieldFrom kind cases (set page len (given .value % 256)) (len + 1) (given .next) k)
+    let next = given cases at kind in
+    let bytes = bytesOf kind (next .value) in
+    pick (endsField (getD cases at 10)) (fieldOf cases len at, page) (fieldFrom kind cases (laid page len bytes) (placePast len bytes) (next .next) k)
 
 -- the field at a place, and a page with its bytes laid out from the start on
 unfoldable pub fieldAt : Kind → List ℕ → ℕ → List ℕ → Field × List ℕ
 fieldAt kind cases at page = fieldFrom kind cases page 0 at (length cases)
+
+-- the list at a place, of row and column numbers or, after the letter b and a blank, of bytes; and a page with it laid out from the start on
+unfoldable pub listAt : List ℕ → ℕ → List ℕ → Field × List ℕ
+listAt cases at page =
+    pick (eqb (getD cases at 10) 98) (fieldAt Numbers cases (placeNext cases (placeNext cases at)) page) (fieldAt Lines cases at page)
 
 -- an empty page: 128 bytes, all 0
 abbrev pub emptyPage : List ℕ

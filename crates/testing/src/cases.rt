@@ -8,10 +8,10 @@ use counting::joining::either_of;
 use pattern::reading::byte_or;
 use pattern::reading::less;
 use pattern::reading::long;
-use pattern::reading::put;
 ghost use mathlib.Core.Path.{_≡_};
 ghost use lib.ListN.{getD};
-ghost use Rattle.testing.specs.Cases.{endsField, placeNext, fieldOf, escapedByte, letterGiven, isDigit, grown, digitsAt, numberAt, numberGiven, byteGiven, fieldAt, endsLaid};
+ghost use Rattle.testing.specs.Laid.{placePast, laid};
+ghost use Rattle.testing.specs.Cases.{endsField, placeNext, fieldOf, escapedByte, letterGiven, isDigit, grown, digitsAt, numberAt, numberGiven, given, bytesOf, fieldAt, listAt, endsLaid};
 
 // The letter at a place, or a line feed past the end.
 fn letter_at(cases: &[u8], at: usize) -> u8
@@ -127,13 +127,26 @@ fn number_given(cases: &[u8], at: usize) -> Field
     field_of(cases, digits.value, digits.next)
 }
 
-// The byte that is given at a place, and where the field goes on.
-fn byte_given(cases: &[u8], at: usize, kind: Kind) -> Field
-    ensures { λ r. ⌜ r ≡ byteGiven (now (cases .entry)) at kind ⌝ }
+// The byte or the number that is given at a place, and where the field goes on.
+fn given_at(cases: &[u8], at: usize, kind: Kind) -> Field
+    ensures { λ r. ⌜ r ≡ given (now (cases .entry)) at kind ⌝ }
 {
     match kind {
         Kind::Text => letter_given(cases, at),
-        Kind::Numbers => number_given(cases, at),
+        Kind::Numbers | Kind::Lines => number_given(cases, at),
+    }
+}
+
+// The bytes of what is given, laid out in a page from a place on, and the place after them.
+fn lay_given(page: &mut [u8], at: usize, kind: Kind, value: u64) -> usize
+    ensures { λ r. ⌜ (r ≡ placePast at (bytesOf kind value))
+        × (now (page .exit) ≡ laid (now (page .entry)) at (bytesOf kind value)) ⌝ }
+{
+    let low = (value % 256) as u8;
+    let high = (value / 256 % 256) as u8;
+    match kind {
+        Kind::Text | Kind::Numbers => lay(page, at, &[low]),
+        Kind::Lines => lay(page, at, &[low, high]),
     }
 }
 
@@ -144,17 +157,31 @@ pub fn field_at(cases: &[u8], at: usize, kind: Kind, page: &mut [u8]) -> Field
 {
     let mut len: usize = 0;
     let mut next = at;
-    while len < cases.len() {
+    let mut turn: usize = 0;
+    while turn < cases.len() {
         let letter = letter_at(cases, next);
         if ends_field(letter) {
             return field_of(cases, len as u64, next);
         }
-        let given = byte_given(cases, next, kind);
-        put(page, len, (given.value % 256) as u8);
+        let given = given_at(cases, next, kind);
+        len = lay_given(page, len, kind, given.value);
         next = given.next;
-        len += 1;
+        turn += 1;
     }
     field_of(cases, len as u64, next)
+}
+
+// The bytes of a list, laid out in a page from its start on: of its row and column numbers, or one by one after the letter b and a blank.
+pub fn list_at(cases: &[u8], at: usize, page: &mut [u8]) -> Field
+    ensures { λ r. ⌜ (r ≡ listAt (now (cases .entry)) at (now (page .entry)) .0)
+        × (now (page .exit) ≡ listAt (now (cases .entry)) at (now (page .entry)) .1) ⌝ }
+{
+    if letter_at(cases, at) == b'b' {
+        let blank = place_next(cases, at);
+        let start = place_next(cases, blank);
+        return field_at(cases, start, Kind::Numbers, page);
+    }
+    field_at(cases, at, Kind::Lines, page)
 }
 
 // A text's start laid out at a page's start, and its end, of at most 128 bytes, before a place: two fields. Gives the place of the next one.

@@ -4,7 +4,7 @@ use mathlib.Core.Bool.{Bool, true, false}
 use mathlib.Core.List.{List, [], _∷_}
 use mathlib.Core.Path.{_≡_, refl, sym, _∙_, ap}
 use Prim.Native.Nat.{ℕ, _*_, _≤_}
-use lib.ListN.{length}
+use lib.ListN.{length, replicate}
 use borrow.Author.Tests.{eqb-true, not-false}
 use Rattle.counting.specs.Tests.{pick, bit}
 use Rattle.counting.specs.Sums.{count}
@@ -23,7 +23,7 @@ use Rattle.texts.specs.declared.Header.{Header}
 use Rattle.texts.specs.declared.ReadAnswer.{ReadAnswer}
 use Rattle.texts.specs.declared.ReadAnswer.the-variants as read-answer
 use Rattle.texts.specs.Header.{headerOf, short, sizeLineVerdict, roomVerdict, squareVerdict, headVerdict}
-use Rattle.texts.specs.Entries.{noCells, isGiven, Entries, entriesFrom}
+use Rattle.texts.specs.Entries.{cellRoom, noCells, isGiven, Entries, entriesFrom}
 use Rattle.texts.specs.Reading.{listed, parted, givenParts, entriesBelow, nonzerosIn, openedVerdict, answerRead, outputAfter, listGiven, partsGiven, textVerdict, belowVerdict, readVerdict, cellsOf, readCall, readList, readParts, readReply, readReplies}
 
 moved-fine : (v : Verdict) (place : ℕ) → moved v place ≡ Accepted → v ≡ Accepted
@@ -59,7 +59,7 @@ module _ (h : Header) (text list parts : ℕ) (e : headVerdict h text list parts
   head-room s = sym (pick-false (squareVerdict h) _ s) ∙ sizes-fine
 
   -- m and n are in their range
-  pub head-lines : (h .m ≤ 120) × (h .n ≤ 120)
+  pub head-lines : (h .m ≤ lineLimit) × (h .n ≤ lineLimit)
   head-lines =
       by-test
       (h .symmetric)
@@ -88,10 +88,10 @@ output-kept word place new old e = rw e
 
 -- the parts after the cells are given
 pub parts-integer :
-    (h : Header) (cells parts new : List ℕ) (m : ℕ) → isInteger (h .field) ≡ true → m ≡ h .m → new ≡ parted cells (120 * m) parts → new ≡ givenParts h cells parts
+    (h : Header) (cells parts new : List ℕ) (m : ℕ) → isInteger (h .field) ≡ true → m ≡ h .m → new ≡ parted cells (lineLimit * m) parts → new ≡ givenParts h cells parts
 unfolding givenParts
 parts-integer h cells parts new m i e n =
-    n ∙ ap (λ k. parted cells (120 * k) parts) e ∙ sym (pick-true (parted cells (lineLimit * h .m) parts) parts i)
+    n ∙ ap (λ k. parted cells (lineLimit * k) parts) e ∙ sym (pick-true (parted cells (lineLimit * h .m) parts) parts i)
 
 pub parts-other : (h : Header) (cells parts : List ℕ) → isInteger (h .field) ≡ false → parts ≡ givenParts h cells parts
 unfolding givenParts
@@ -131,6 +131,11 @@ module _ (h : Header) (v call : Verdict) (e : v ≡ call) where
     unfolding partsGiven
     parts-kept cells parts = sym (output-kept word place _ parts (sym e ∙ a))
 
+-- a table of zeros
+pub no-cells : replicate cellRoom 0 ≡ noCells
+unfolding noCells
+no-cells = refl
+
 -- the entries below the size line, read into a table that starts empty
 module _ (text : List ℕ) (h : Header) (start : List ℕ) (s : start ≡ noCells) where
   below : entriesFrom text h (length text) (h .next) 0 start ≡ entriesBelow text h
@@ -142,14 +147,14 @@ module _ (text : List ℕ) (h : Header) (start : List ℕ) (s : start ≡ noCell
 
   pub nonzeros-are :
       (new : List ℕ) (nonzeros : ℕ) → new ≡ entriesFrom text h (length text) (h .next) 0 start .cells →
-      nonzeros ≡ count (isGiven new) (120 * h .m) → nonzeros ≡ nonzerosIn h (entriesBelow text h .cells)
+      nonzeros ≡ count (isGiven new) (lineLimit * h .m) → nonzeros ≡ nonzerosIn h (entriesBelow text h .cells)
   unfolding nonzerosIn
-  nonzeros-are new nonzeros f n = n ∙ ap (λ x. count (isGiven x) (120 * h .m)) (cells-are new f)
+  nonzeros-are new nonzeros f n = n ∙ ap (λ x. count (isGiven x) (lineLimit * h .m)) (cells-are new f)
 
   pub below-is :
       (v opened r : Verdict) (new : List ℕ) (nonzeros list parts : ℕ) →
       v ≡ entriesFrom text h (length text) (h .next) 0 start .verdict →
-      new ≡ entriesFrom text h (length text) (h .next) 0 start .cells → nonzeros ≡ count (isGiven new) (120 * h .m) →
+      new ≡ entriesFrom text h (length text) (h .next) 0 start .cells → nonzeros ≡ count (isGiven new) (lineLimit * h .m) →
       opened ≡ openedVerdict h nonzeros list parts → r ≡ (v then opened) → r ≡ belowVerdict text h list parts
   unfolding belowVerdict
   below-is v opened r new nonzeros list parts e f n o q =

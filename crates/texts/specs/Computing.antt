@@ -3,6 +3,7 @@
 use Rattle.counting.specs.Tests.{_and_, _or_, pick, bit}
 use Rattle.counting.specs.Sums.{sum}
 use Rattle.model.specs.Refusal.{refuse, _then_}
+use Rattle.model.specs.Pattern.{withNumber, withEntry}
 use Rattle.model.specs.Calls.{outside, sizesVerdict}
 use Rattle.scanning.specs.Classes.{between, classOf, smallLetter, cased, digitOf}
 use Rattle.scanning.specs.Checks.{moved}
@@ -15,5 +16,5 @@ use Rattle.texts.specs.Reading.{listCell, partCell, listed, parted, give
 
 -- to unfold this is to unfold every definition that a reading computes with
 unfoldable pub computing : Type 0
-unfolding readCall readList readParts cellsOf readVerdict belowVerdict textVerdict partsGiven listGiven outputAfter answerRead openedVerdict nonzerosIn entriesBelow givenParts parted listed partCell listCell entriesFrom after endVerdict noted opened lineVerdict entryCheck aboveDiagonal mirrorOf cellMark isGiven noCells cellOf entryAt headVerdict squareVerdict roomVerdict sizeLineVerdict short headerOf bannerAt fieldAt numbersAt endsAt numberAt numberValue valueOf isNumber sameWord spells wordAt isReal isExponent pastEither sizeLineAt skipped isComment emptyLine lineNext lineEnd hasReturn lineStop stretchEnd stretchesAt past moved digitOf cased smallLetter classOf between refuse _then_ sizesVerdict outside sum bit pick _and_ _or_
+unfolding readCall readList readParts cellsOf readVerdict belowVerdict textVerdict partsGiven listGiven outputAfter answerRead openedVerdict nonzerosIn entriesBelow givenParts parted listed partCell listCell entriesFrom after endVerdict noted opened lineVerdict entryCheck aboveDiagonal mirrorOf cellMark isGiven noCells cellOf entryAt headVerdict squareVerdict roomVerdict sizeLineVerdict short headerOf bannerAt fieldAt numbersAt endsAt numberAt numberValue valueOf isNumber sameWord spells wordAt isReal isExponent pastEither sizeLineAt skipped isComment emptyLine lineNext lineEnd hasReturn lineStop stretchEnd stretchesAt past moved digitOf cased smallLetter classOf between withEntry withNumber refuse _then_ sizesVerdict outside sum bit pick _and_ _or_
 computing = Unit

@@ -26,9 +26,13 @@ entryAt text h at = numbersAt text at (lineEnd text at) (h .field)
 unfoldable pub cellOf : ℕ → ℕ → ℕ
 cellOf i j = lineLimit * (i - 1) + (j - 1)
 
+-- the cells of such a table
+abbrev pub cellRoom : ℕ
+cellRoom = lineLimit * lineLimit
+
 -- a table of cells with nothing given
 unfoldable pub noCells : List ℕ
-noCells = replicate (lineLimit * lineLimit) 0
+noCells = replicate cellRoom 0
 
 -- the nonzero of a cell is given
 unfoldable pub isGiven : List ℕ → ℕ → Bool

@@ -1,7 +1,7 @@
 -- Document 01, 'Texts', and request 1 of document 02: what reading a text gives, for any text and any slices.
 -- Assumes nothing.
 use mathlib.Core.List.{List, [], _∷_}
-use Prim.Native.Nat.{ℕ, zero, suc, _+_, _-_, _*_, _/_, _%_}
+use Prim.Native.Nat.{ℕ, zero, suc, _-_, _*_, _/_, _%_}
 use lib.ListN.{length, getD, set}
 use Rattle.counting.specs.Tests.{pick, bit}
 use Rattle.counting.specs.Sums.{count}
@@ -9,7 +9,7 @@ use Rattle.model.specs.declared.Verdict.{Verdict}
 use Rattle.model.specs.declared.Verdict.the-variants.{Accepted, Refused}
 use Rattle.model.specs.Limits.{lineLimit}
 use Rattle.model.specs.Refusal.{Reply, given, refusal, replyAfter, _then_}
-use Rattle.model.specs.Pattern.{entryBytes}
+use Rattle.model.specs.Pattern.{withEntry}
 use Rattle.scanning.specs.Words.{isInteger}
 use Rattle.texts.specs.declared.Header.{Header}
 use Rattle.texts.specs.declared.ReadAnswer.{ReadAnswer}
@@ -17,10 +17,10 @@ use Rattle.texts.specs.declared.ReadAnswer.the-variants as read-answer
 use Rattle.texts.specs.Header.{headerOf, roomVerdict, headVerdict}
 use Rattle.texts.specs.Entries.{noCells, isGiven, Entries, entriesFrom}
 
--- a list's row and column byte for nonzero t, where cell p gives it
+-- a list's row and column number for nonzero t, where cell p gives it
 unfoldable pub listCell : List ℕ → ℕ → ℕ → ℕ → ℕ → List ℕ → List ℕ
 listCell cells p t row column list =
-    pick (isGiven cells p) (set (set list (entryBytes * t) row) (entryBytes * t + 1) column) list
+    pick (isGiven cells p) (withEntry t row column list) list
 
 -- a part byte for nonzero t, where cell p gives it
 unfoldable pub partCell : List ℕ → ℕ → ℕ → List ℕ → List ℕ

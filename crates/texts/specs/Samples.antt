@@ -4,10 +4,14 @@ use mathlib.Core.Bool.{true, false}
 use mathlib.Core.List.{List, [], _∷_, _++_}
 use mathlib.Core.Path.{_≡_, refl}
 use Prim.Native.Nat.{ℕ}
+use lib.ListN.{length}
 use Rattle.counting.specs.Tests.{bit}
 use Rattle.model.specs.declared.Word.the-variants.{Banner, SizeLine, EntryForm, TooBig, OffMatrix, Repeated, Count, BadPart, ShortBuffer}
+use Rattle.model.specs.declared.Verdict.the-variants.{Accepted, Refused}
+use Rattle.model.specs.Pattern.{listOf}
 use Rattle.model.specs.Refusal.{given, refusal}
 use Rattle.texts.specs.declared.ReadAnswer.the-variants as read-answer
+use Rattle.texts.specs.Header.{headerOf, headVerdict}
 use Rattle.texts.specs.Reading.{readCall, readList, readParts, readReply}
 use Rattle.texts.specs.Computing.{computing}
 
@@ -27,9 +31,9 @@ diagonal = 50 ∷ 32 ∷ 50 ∷ 32 ∷ 50 ∷ 10 ∷ 50 ∷ 32 ∷ 50 ∷ 10 ∷
 abbrev commented : List ℕ
 commented = 37 ∷ 32 ∷ 97 ∷ 32 ∷ 37 ∷ 10 ∷ 32 ∷ 9 ∷ 10 ∷ 32 ∷ 32 ∷ 48 ∷ 48 ∷ 50 ∷ 32 ∷ 50 ∷ 32 ∷ 50 ∷ 32 ∷ 13 ∷ 10 ∷ 50 ∷ 32 ∷ 50 ∷ 32 ∷ 50 ∷ 10 ∷ 10 ∷ 49 ∷ 32 ∷ 49 ∷ 32 ∷ 49 ∷ []
 
--- a slice of eight bytes
+-- a slice with room for three nonzeros
 abbrev room : List ℕ
-room = 9 ∷ 9 ∷ 9 ∷ 9 ∷ 9 ∷ 9 ∷ 9 ∷ 9 ∷ []
+room = 9 ∷ 9 ∷ 9 ∷ 9 ∷ 9 ∷ 9 ∷ 9 ∷ 9 ∷ 9 ∷ 9 ∷ 9 ∷ 9 ∷ []
 
 -- sizes and format
 diagonal-read : readCall (pattern-line ++ diagonal) room [] ≡ read-answer.Read 2 2 2 false
@@ -37,7 +41,7 @@ unfolding computing
 diagonal-read = refl
 
 -- the list is sorted by row and then column, and bytes past it stay
-diagonal-list : readList (pattern-line ++ diagonal) room [] ≡ 0 ∷ 0 ∷ 1 ∷ 1 ∷ 9 ∷ 9 ∷ 9 ∷ 9 ∷ []
+diagonal-list : readList (pattern-line ++ diagonal) room [] ≡ listOf (0 ∷ 0 ∷ 1 ∷ 1 ∷ []) ++ (9 ∷ 9 ∷ 9 ∷ 9 ∷ [])
 unfolding computing
 diagonal-list = refl
 
@@ -52,9 +56,20 @@ unfolding computing
 commented-read = refl
 
 -- the parts in the list's order
-commented-parts : readParts (integer-line ++ commented) room room ≡ 0 ∷ 1 ∷ 9 ∷ 9 ∷ 9 ∷ 9 ∷ 9 ∷ 9 ∷ []
+commented-parts : readParts (integer-line ++ commented) room room ≡ 0 ∷ 1 ∷ 9 ∷ 9 ∷ 9 ∷ 9 ∷ 9 ∷ 9 ∷ 9 ∷ 9 ∷ 9 ∷ 9 ∷ []
 unfolding computing
 commented-parts = refl
+
+-- 2 300 2 LF 2 300 LF 1 257 LF
+abbrev wide-text : List ℕ
+wide-text = 50 ∷ 32 ∷ 51 ∷ 48 ∷ 48 ∷ 32 ∷ 50 ∷ 10 ∷ 50 ∷ 32 ∷ 51 ∷ 48 ∷ 48 ∷ 10 ∷ 49 ∷ 32 ∷ 50 ∷ 53 ∷ 55 ∷ 10 ∷ []
+
+-- column numbers past a byte, to the last
+wide :
+    (readCall (pattern-line ++ wide-text) room [] ≡ read-answer.Read 2 300 2 false)
+    × (readList (pattern-line ++ wide-text) room [] ≡ 0 ∷ 0 ∷ 0 ∷ 1 ∷ 1 ∷ 0 ∷ 43 ∷ 1 ∷ 9 ∷ 9 ∷ 9 ∷ 9 ∷ [])
+unfolding computing
+wide = (refl, refl)
 
 -- nothing
 abbrev no-text-text : List ℕ
@@ -110,14 +125,30 @@ late-percent : readCall (pattern-line ++ late-percent-text) room room ≡ read-a
 unfolding computing
 late-percent = refl
 
--- 121 1 0 LF
+-- 301 1 0 LF
 abbrev large-rows-text : List ℕ
-large-rows-text = 49 ∷ 50 ∷ 49 ∷ 32 ∷ 49 ∷ 32 ∷ 48 ∷ 10 ∷ []
+large-rows-text = 51 ∷ 48 ∷ 49 ∷ 32 ∷ 49 ∷ 32 ∷ 48 ∷ 10 ∷ []
 
 -- 4: at the size line
 large-rows : readCall (pattern-line ++ large-rows-text) room room ≡ read-answer.Refused TooBig 49
 unfolding computing
 large-rows = refl
+
+-- 300 300 4000 LF
+abbrev largest-text : List ℕ
+largest-text = pattern-line ++ (51 ∷ 48 ∷ 48 ∷ 32 ∷ 51 ∷ 48 ∷ 48 ∷ 32 ∷ 52 ∷ 48 ∷ 48 ∷ 48 ∷ 10 ∷ [])
+
+-- 300 300 4001 LF
+abbrev too-many-text : List ℕ
+too-many-text = pattern-line ++ (51 ∷ 48 ∷ 48 ∷ 32 ∷ 51 ∷ 48 ∷ 48 ∷ 32 ∷ 52 ∷ 48 ∷ 48 ∷ 49 ∷ 10 ∷ [])
+
+-- the checks before the entries: the largest sizes, with a list of 16,000 bytes, and a nonzero more
+largest :
+    (headVerdict (headerOf largest-text) (length largest-text) 16000 0 ≡ Accepted)
+    × (headVerdict (headerOf largest-text) (length largest-text) 15999 0 ≡ Refused ShortBuffer 0)
+    × (headVerdict (headerOf too-many-text) (length too-many-text) 16004 0 ≡ Refused TooBig 49)
+unfolding computing
+largest = (refl, refl, refl)
 
 -- 1 1 2 LF
 abbrev many-text : List ℕ

@@ -6,6 +6,7 @@ use mathlib.Core.Path.{_≡_, refl}
 use Prim.Native.Nat.{ℕ}
 use Rattle.model.specs.declared.Word.the-variants.{Banner, EntryForm, TooBig, OffMatrix, Repeated, Count, ShortBuffer, NotSquare, AboveDiagonal}
 use Rattle.model.specs.declared.Verdict.the-variants.{Accepted, Refused}
+use Rattle.model.specs.Pattern.{listOf}
 use Rattle.scanning.specs.declared.Field.the-variants.{Pattern}
 use Rattle.texts.specs.declared.Header.{Header}
 use Rattle.texts.specs.declared.ReadAnswer.the-variants as read-answer
@@ -30,7 +31,7 @@ both-line = 37 ∷ 37 ∷ 77 ∷ 97 ∷ 116 ∷ 114 ∷ 105 ∷ 120 ∷ 77 ∷ 9
 
 -- slices with room for four nonzeros
 abbrev list-room : List ℕ
-list-room = 9 ∷ 9 ∷ 9 ∷ 9 ∷ 9 ∷ 9 ∷ 9 ∷ 9 ∷ []
+list-room = 9 ∷ 9 ∷ 9 ∷ 9 ∷ 9 ∷ 9 ∷ 9 ∷ 9 ∷ 9 ∷ 9 ∷ 9 ∷ 9 ∷ 9 ∷ 9 ∷ 9 ∷ 9 ∷ []
 
 abbrev parts-room : List ℕ
 parts-room = 9 ∷ 9 ∷ 9 ∷ 9 ∷ []
@@ -42,7 +43,7 @@ opened-text = pattern-line ++ (50 ∷ 32 ∷ 50 ∷ 32 ∷ 50 ∷ 10 ∷ 50 ∷ 
 -- an entry below the diagonal stands for two nonzeros, one on it for one
 opened :
     (readCall opened-text list-room parts-room ≡ read-answer.Read 2 2 3 false)
-    × (readList opened-text list-room parts-room ≡ 0 ∷ 0 ∷ 0 ∷ 1 ∷ 1 ∷ 0 ∷ 9 ∷ 9 ∷ [])
+    × (readList opened-text list-room parts-room ≡ listOf (0 ∷ 0 ∷ 0 ∷ 1 ∷ 1 ∷ 0 ∷ []) ++ (9 ∷ 9 ∷ 9 ∷ 9 ∷ []))
     × (readParts opened-text list-room parts-room ≡ 9 ∷ 9 ∷ 9 ∷ 9 ∷ [])
 unfolding computing
 opened = (refl, refl, refl)
@@ -54,7 +55,7 @@ both-in-its-part-text = integer-line ++ (50 ∷ 32 ∷ 50 ∷ 32 ∷ 50 ∷ 10 �
 -- both nonzeros of an entry are in its part
 both-in-its-part :
     (readCall both-in-its-part-text list-room parts-room ≡ read-answer.Read 2 2 3 true)
-    × (readList both-in-its-part-text list-room parts-room ≡ 0 ∷ 1 ∷ 1 ∷ 0 ∷ 1 ∷ 1 ∷ 9 ∷ 9 ∷ [])
+    × (readList both-in-its-part-text list-room parts-room ≡ listOf (0 ∷ 1 ∷ 1 ∷ 0 ∷ 1 ∷ 1 ∷ []) ++ (9 ∷ 9 ∷ 9 ∷ 9 ∷ []))
     × (readParts both-in-its-part-text list-room parts-room ≡ 1 ∷ 1 ∷ 0 ∷ 9 ∷ [])
 unfolding computing
 both-in-its-part = (refl, refl, refl)
@@ -66,7 +67,7 @@ valued-text = real-line ++ (50 ∷ 32 ∷ 50 ∷ 32 ∷ 50 ∷ 10 ∷ 50 ∷ 32 
 -- values are skipped, and one of 0 is a nonzero
 valued :
     (readCall valued-text list-room parts-room ≡ read-answer.Read 2 2 2 false)
-    × (readList valued-text list-room parts-room ≡ 0 ∷ 0 ∷ 1 ∷ 1 ∷ 9 ∷ 9 ∷ 9 ∷ 9 ∷ [])
+    × (readList valued-text list-room parts-room ≡ listOf (0 ∷ 0 ∷ 1 ∷ 1 ∷ []) ++ (9 ∷ 9 ∷ 9 ∷ 9 ∷ 9 ∷ 9 ∷ 9 ∷ 9 ∷ []))
     × (readParts valued-text list-room parts-room ≡ 9 ∷ 9 ∷ 9 ∷ 9 ∷ [])
 unfolding computing
 valued = (refl, refl, refl)
@@ -78,7 +79,7 @@ valued-opened-text = both-line ++ (50 ∷ 32 ∷ 50 ∷ 32 ∷ 49 ∷ 10 ∷ 50 
 -- symmetric with real values
 valued-opened :
     (readCall valued-opened-text list-room parts-room ≡ read-answer.Read 2 2 2 false)
-    × (readList valued-opened-text list-room parts-room ≡ 0 ∷ 1 ∷ 1 ∷ 0 ∷ 9 ∷ 9 ∷ 9 ∷ 9 ∷ [])
+    × (readList valued-opened-text list-room parts-room ≡ listOf (0 ∷ 1 ∷ 1 ∷ 0 ∷ []) ++ (9 ∷ 9 ∷ 9 ∷ 9 ∷ 9 ∷ 9 ∷ 9 ∷ 9 ∷ []))
     × (readParts valued-opened-text list-room parts-room ≡ 9 ∷ 9 ∷ 9 ∷ 9 ∷ [])
 unfolding computing
 valued-opened = (refl, refl, refl)
@@ -200,7 +201,7 @@ skew : readCall skew-text list-room parts-room ≡ read-answer.Refused Banner 0
 unfolding computing
 skew = refl
 
--- a symmetric pattern text of 120 rows and columns, with its size line at 51
+-- a symmetric pattern text of 300 rows and columns, with its size line at 51
 abbrev wide-header : Header
 wide-header =
     record {
@@ -208,14 +209,14 @@ wide-header =
       field = Pattern;
       symmetric = true;
       sized = true;
-      m = 120;
-      n = 120;
-      entries = 1001;
+      m = 300;
+      n = 300;
+      entries = 2001;
       at = 51;
       next = 64;
     }
 
 -- 4 for the opened N, at the size line, before 9
-opened-limit : (openedVerdict wide-header 2000 4000 0 ≡ Accepted) × (openedVerdict wide-header 2001 0 0 ≡ Refused TooBig 51)
+opened-limit : (openedVerdict wide-header 4000 16000 0 ≡ Accepted) × (openedVerdict wide-header 4001 0 0 ≡ Refused TooBig 51)
 unfolding computing
 opened-limit = (refl, refl)

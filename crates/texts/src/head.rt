@@ -7,16 +7,16 @@ use counting::joining::either_of;
 use model::Verdict;
 use model::Word;
 use pattern::checks::and_then;
+use pattern::checks::refuse_if;
+use pattern::checks::refuse_unless;
 use pattern::checks::sizes_verdict;
+use pattern::reading::wide32;
 use readings::size_line;
 use scanning::Field;
 use scanning::Stretch;
 use scanning::lines::line_end;
 use scanning::lines::stretch_end;
 use scanning::tests::move_to;
-use scanning::tests::refuse_if;
-use scanning::tests::refuse_unless;
-use scanning::tests::wide32;
 use scanning::words::ends_at;
 use scanning::words::is_integer;
 use scanning::words::numbers_at;
@@ -98,12 +98,12 @@ pub(crate) fn header_of(text: &[u8]) -> Header
     }
 }
 
-// For so many nonzeros, the list slice has under 2 × N bytes, or for integer the parts slice under N.
+// For so many nonzeros, the list slice has under 4 × N bytes, or for integer the parts slice under N.
 fn is_short(header: Header, nonzeros: u32, list: usize, parts: usize) -> bool
     ensures { λ r. ⌜ r ≡ short header nonzeros list parts ⌝ }
 {
     let needed = wide32(nonzeros);
-    let listed = list < 2 * needed;
+    let listed = list < 4 * needed;
     let field = header.field;
     let parted = both_of(is_integer(field), parts < needed);
     either_of(listed, parted)

@@ -1,7 +1,6 @@
 // Reading a text.
 use crate::Header;
 use crate::ReadAnswer;
-use crate::entries::no_cells;
 use crate::entries::note_entries;
 use crate::giving::count_given;
 use crate::giving::give_list;
@@ -10,6 +9,7 @@ use crate::head::head_verdict;
 use crate::head::header_of;
 use crate::head::room_verdict;
 use model::Verdict;
+use model::limits::CELL_ROOM;
 use pattern::checks::and_then;
 use scanning::words::is_integer;
 ghost use mathlib.Core.Path.{_≡_};
@@ -20,11 +20,11 @@ ghost use Rattle.texts.specs.Reading.{listed, givenParts, entriesBelow, 
 
 // The list as output, and for integer the parts.
 fn give(cells: &[u8], header: Header, list: &mut [u8], parts: &mut [u8])
-    requires { ⌜ header .m ≤ 120 ⌝ }
+    requires { ⌜ header .m ≤ lineLimit ⌝ }
     ensures list { λ _. ⌜ now (list .exit) ≡ listed (now (cells .entry)) (lineLimit * header .m) (now (list .entry)) ⌝ }
     ensures parts { λ _. ⌜ now (parts .exit) ≡ givenParts header (now (cells .entry)) (now (parts .entry)) ⌝ }
 {
-    let m = header.m as u8;
+    let m = header.m as u16;
     give_list(cells, m, list);
     let field = header.field;
     if is_integer(field) {
@@ -45,14 +45,14 @@ fn opened_verdict(header: Header, nonzeros: u32, list: usize, parts: usize) -> V
 
 // The entries read, and output where nothing is refused.
 fn read_entries(text: &[u8], header: Header, list: &mut [u8], parts: &mut [u8]) -> ReadAnswer
-    requires { ⌜ header .m ≤ 120 ⌝ }
+    requires { ⌜ header .m ≤ lineLimit ⌝ }
     ensures answer { λ r. ⌜ r ≡ answerRead (belowVerdict (now (text .entry)) header (length (now (list .entry))) (length (now (parts .entry)))) header (nonzerosIn header (entriesBelow (now (text .entry)) header .cells)) ⌝ }
     ensures list { λ r. ⌜ now (list .exit) ≡ listGiven (belowVerdict (now (text .entry)) header (length (now (list .entry))) (length (now (parts .entry)))) header (entriesBelow (now (text .entry)) header .cells) (now (list .entry)) ⌝ }
     ensures parts { λ r. ⌜ now (parts .exit) ≡ partsGiven (belowVerdict (now (text .entry)) header (length (now (list .entry))) (length (now (parts .entry)))) header (entriesBelow (now (text .entry)) header .cells) (now (parts .entry)) ⌝ }
 {
-    let mut cells = no_cells();
+    let mut cells = [0u8; CELL_ROOM];
     let entries = note_entries(text, header, &mut cells);
-    let nonzeros = count_given(&cells, header.m as u8);
+    let nonzeros = count_given(&cells, header.m as u16);
     let opened = opened_verdict(header, nonzeros, list.len(), parts.len());
     let verdict = and_then(entries, opened);
     match verdict {

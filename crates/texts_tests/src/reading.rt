@@ -24,11 +24,11 @@ fn read_into(text: &[u8], list: &mut [u8], parts: &mut [u8]) {
     say(b"\n");
 }
 
-// A text read into slices of these lengths, at most 8 bytes for the list and 4 for the parts.
+// A text read into slices of these lengths, at most 16 bytes for the list and 4 for the parts.
 pub(crate) fn read_within(text: &[u8], listed: usize, parted: usize) {
-    let mut list = [9u8; 8];
+    let mut list = [9u8; 16];
     let mut parts = [9u8; 4];
-    if listed <= 8 {
+    if listed <= 16 {
         if parted <= 4 {
             read_into(text, &mut list[0..listed], &mut parts[0..parted]);
         }
@@ -57,6 +57,6 @@ pub(crate) fn filled_case(cases: &[u8], at: usize) -> usize {
     let len = length.value as usize;
     let mut page = [fill[0]; 65537];
     let next = lay_ends(cases, length.next, len, &mut page);
-    read_within(first(&page, len), 8, 4);
+    read_within(first(&page, len), 16, 4);
     next
 }

@@ -4,6 +4,7 @@ use crate::saying::is_kept;
 use crate::saying::say_written;
 use testing::Kind;
 use testing::cases::field_at;
+use testing::cases::list_at;
 use testing::cases::number_at;
 use testing::laying::first;
 use testing::saying::say;
@@ -18,7 +19,7 @@ struct Split {
     m: u64,
     n: u64,
     nonzeros: u64,
-    list: [u8; 8],
+    list: [u8; 16],
     listed: usize,
     parts: [u8; 4],
     parted: usize,
@@ -27,12 +28,12 @@ struct Split {
 
 // The split of a case.
 fn split_at(cases: &[u8], at: usize) -> Split {
-    let mut list = [0u8; 8];
+    let mut list = [0u8; 16];
     let mut parts = [0u8; 4];
     let m = number_at(cases, at);
     let n = number_at(cases, m.next);
     let nonzeros = number_at(cases, n.next);
-    let listed = field_at(cases, nonzeros.next, Kind::Numbers, &mut list);
+    let listed = list_at(cases, nonzeros.next, &mut list);
     let parted = field_at(cases, listed.next, Kind::Numbers, &mut parts);
     Split {
         m: m.value,
@@ -111,7 +112,7 @@ fn write_back(split: Split, figures: Figures) {
     let text = first(&out, len_of(answer));
     say(text);
     say(b"read back");
-    read_within(text, 8, 4);
+    read_within(text, 16, 4);
 }
 
 // A split and its figures, written and read back.

@@ -12,7 +12,7 @@ use borrow.Author.Tests.{lt-ltb, le-ltb, ltb-true, eqb-true, eqb-false}
 use Rattle.counting.specs.Tests.{_or_, pick}
 use Rattle.counting.proofs.Joined.{no-way, clash, by-test, or-left, or-right, pick-true, pick-false}
 use Rattle.trail.specs.declared.Trail.{Trail}
-use Rattle.trail.specs.Trail.{topOf, hasLast, withMark, dropped, droppedAt, markOr, lastMark, isPart, givesPartIn, uncut, nextMark}
+use Rattle.trail.specs.Trail.{markRoom, topOf, hasLast, withMark, dropped, droppedAt, markOr, lastMark, isPart, givesPartIn, uncut, nextMark}
 
 -- no mark before the first, and one mark more
 pub gives-none : (marks : List ℕ) → givesPartIn marks 0 ≡ false
@@ -57,48 +57,53 @@ pub top-suc : (d : ℕ) → topOf (suc d) ≡ d
 unfolding topOf
 top-suc d =
     let e : suc d - 1 ≡ d = omega arith in
-    pick-true (suc d - 1) 240 (lt-ltb 0 (suc d) (omega arith)) ∙ e
+    pick-true (suc d - 1) markRoom (lt-ltb 0 (suc d) (omega arith)) ∙ e
 
-pub top-none : topOf 0 ≡ 240
+pub top-none : topOf 0 ≡ markRoom
 unfolding topOf
-top-none = pick-false (0 - 1) 240 (le-ltb 0 0 (omega arith))
+top-none = pick-false (0 - 1) markRoom (le-ltb 0 0 (omega arith))
 
 -- what is done at the last index of some marks, and of none
 pub at-top :
-    {A : Type 0} (f : ℕ → A) (other : A) (len d : ℕ) → len ≡ suc d → d < 240 →
-    pick (ltb (topOf len) 240) (f (topOf len)) other ≡ f d
+    {A : Type 0} (f : ℕ → A) (other : A) (len d : ℕ) → len ≡ suc d → d < markRoom →
+    pick (ltb (topOf len) markRoom) (f (topOf len)) other ≡ f d
 at-top f other len d e b =
     let at : topOf len ≡ d = ap topOf e ∙ top-suc d in
-    pick-true (f (topOf len)) other (lt-ltb (topOf len) 240 (omega arith)) ∙ ap f at
+    pick-true (f (topOf len)) other (lt-ltb (topOf len) markRoom (omega arith)) ∙ ap f at
 
-pub at-none : {A : Type 0} (x other : A) → pick (ltb (topOf 0) 240) x other ≡ other
-at-none x other = pick-false x other (le-ltb (topOf 0) 240 (omega (arith, top-none)))
+pub at-none : {A : Type 0} (x other : A) → pick (ltb (topOf 0) markRoom) x other ≡ other
+at-none x other = pick-false x other (le-ltb (topOf 0) markRoom (omega (arith, top-none)))
 
 -- a trail that has a last mark
 pub record Topped (t : Trail) : Type 0 where
   pub rest : ℕ
   pub long : t .len ≡ suc rest
-  pub inside : rest < 240
+  pub inside : rest < markRoom
 
 pub topped : (t : Trail) → hasLast t ≡ true → Topped t
 unfolding hasLast
-topped t h = by-length (t .len) refl (ltb-true (topOf (t .len)) 240 h)
+topped t h = by-length (t .len) refl (ltb-true (topOf (t .len)) markRoom h)
   where
-    by-length : (d : ℕ) → t .len ≡ d → topOf (t .len) < 240 → Topped t
+    by-length : (d : ℕ) → t .len ≡ d → topOf (t .len) < markRoom → Topped t
     by-length zero e b = no-way (omega (arith, ap topOf e, top-none))
     by-length (suc d) e b = record { rest = d; long = e; inside = omega (arith, ap topOf e, top-suc d) }
 
-pub has-last : (t : Trail) (d : ℕ) → t .len ≡ suc d → d < 240 → hasLast t ≡ true
+pub has-last : (t : Trail) (d : ℕ) → t .len ≡ suc d → d < markRoom → hasLast t ≡ true
 unfolding hasLast
-has-last t d e b = lt-ltb (topOf (t .len)) 240 (omega (arith, ap topOf e, top-suc d))
+has-last t d e b = lt-ltb (topOf (t .len)) markRoom (omega (arith, ap topOf e, top-suc d))
 
 -- dropping leaves one mark less
-pub dropped-at : (t : Trail) (d : ℕ) → t .len ≡ suc d → d < 240 → dropped t ≡ withMark t d 0 d
+pub dropped-at : (t : Trail) (d : ℕ) → t .len ≡ suc d → d < markRoom → dropped t ≡ withMark t d 0 d
 unfolding dropped droppedAt
 dropped-at t d e b = at-top (λ (at : ℕ). withMark t at 0 at) t (t .len) d e b
 
-pub dropped-length : (t : Trail) (d : ℕ) → t .len ≡ suc d → d < 240 → dropped t .len ≡ d
+pub dropped-length : (t : Trail) (d : ℕ) → t .len ≡ suc d → d < markRoom → dropped t .len ≡ d
 dropped-length t d e b = ap (λ (x : Trail). x .len) (dropped-at t d e b)
+
+pub dropped-last : (t : Trail) → hasLast t ≡ true → dropped t ≡ withMark t (t .len - 1) 0 (t .len - 1)
+dropped-last t h =
+    let w = topped t h in
+    dropped-at t (t .len - 1) (omega (arith, w .long)) (omega (arith, w .long, w .inside))
 
 pub drops : (t : Trail) → hasLast t ≡ true → dropped t .len < t .len
 drops t h =
@@ -110,7 +115,7 @@ pub cut-last : (t : Trail) → 1 < lastMark t 0 → hasLast t ≡ true
 unfolding lastMark markOr hasLast
 cut-last t h =
     by-test
-    (ltb (topOf (t .len)) 240)
+    (ltb (topOf (t .len)) markRoom)
     (λ e. e)
     (λ e. no-way (omega (arith, pick-false (getD (t .marks) (topOf (t .len)) 0) 0 e)))
 

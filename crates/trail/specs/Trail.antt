@@ -8,13 +8,17 @@ use lib.ListN.{getD, set}
 use Rattle.counting.specs.Tests.{_or_, pick}
 use Rattle.trail.specs.declared.Trail.{Trail}
 
--- the index of the last of so many marks, or 240 where there is none
+-- room for a mark of every line, of 300 rows and 300 columns
+abbrev pub markRoom : ℕ
+markRoom = 600
+
+-- the index of the last of so many marks, or the array's end where there is none
 unfoldable pub topOf : ℕ → ℕ
-topOf len = pick (ltb 0 len) (len - 1) 240
+topOf len = pick (ltb 0 len) (len - 1) markRoom
 
 -- there is a last mark, within the array
 unfoldable pub hasLast : Trail → Bool
-hasLast t = ltb (topOf (t .len)) 240
+hasLast t = ltb (topOf (t .len)) markRoom
 
 -- the trail of these marks and this length
 abbrev pub trailWith : List ℕ → ℕ → Trail
@@ -26,11 +30,11 @@ withMark t at mark len = trailWith (set (t .marks) at mark) len
 
 -- one mark more, where there is room
 unfoldable pub appended : Trail → ℕ → Trail
-appended t mark = pick (ltb (t .len) 240) (withMark t (t .len) mark (t .len + 1)) t
+appended t mark = pick (ltb (t .len) markRoom) (withMark t (t .len) mark (t .len + 1)) t
 
 -- without the mark at this index, the last
 unfoldable pub droppedAt : Trail → ℕ → Trail
-droppedAt t at = pick (ltb at 240) (withMark t at 0 at) t
+droppedAt t at = pick (ltb at markRoom) (withMark t at 0 at) t
 
 -- without the last mark
 unfoldable pub dropped : Trail → Trail
@@ -38,7 +42,7 @@ dropped t = droppedAt t (topOf (t .len))
 
 -- the mark at an index, or `none` past the array's end
 unfoldable pub markOr : ℕ → List ℕ → ℕ → ℕ
-markOr none marks i = pick (ltb i 240) (getD marks i 0) none
+markOr none marks i = pick (ltb i markRoom) (getD marks i 0) none
 
 -- the last mark, or `none`
 unfoldable pub lastMark : Trail → ℕ → ℕ
@@ -46,7 +50,7 @@ lastMark t none = markOr none (t .marks) (topOf (t .len))
 
 -- another mark at this index, the last
 unfoldable pub replacedAt : Trail → ℕ → ℕ → Trail
-replacedAt t mark at = pick (ltb at 240) (withMark t at mark (t .len)) t
+replacedAt t mark at = pick (ltb at markRoom) (withMark t at mark (t .len)) t
 
 -- another last mark
 unfoldable pub replaced : Trail → ℕ → Trail
@@ -60,10 +64,6 @@ isPart mark = ltb mark 2
 unfoldable pub givesPartIn : List ℕ → ℕ → Bool
 givesPartIn marks zero = false
 givesPartIn marks (suc i) = isPart (markOr 0 marks i) or givesPartIn marks i
-
--- some mark before the last is 0 or 1
-unfoldable pub partBefore : Trail → Bool
-partBefore t = givesPartIn (t .marks) (topOf (t .len))
 
 -- mark 1 is allowed at this index: it may come first, or some mark before it is 0 or 1
 unfoldable pub oneAt : Bool → List ℕ → ℕ → Bool

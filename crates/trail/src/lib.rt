@@ -1,22 +1,25 @@
 // The trail: a marking in the order of lines, as a stack of marks. Its methods append, drop and advance marks and hand it back.
 ghost use mathlib.Core.Path.{_≡_};
-ghost use Rattle.trail.specs.Trail.{topOf, hasLast, appended, dropped, replaced, lastMark, markOr, isPart, givesPartIn, partBefore, mayBeOne, nextMark, uncut, lastAdvanced, advanced};
+ghost use Rattle.trail.specs.Trail.{topOf, hasLast, appended, dropped, replaced, lastMark, markOr, isPart, givesPartIn, oneAt, mayBeOne, nextMark, uncut, lastAdvanced, advanced};
+
+// Room for a mark of every line, of 300 rows and 300 columns.
+pub const MARK_ROOM: usize = 600;
 
 // A marking: the mark of the line at place i is marks[i], for each i below len. Methods keep 0 in the marks past its length.
 pub struct Trail {
-    pub marks: [u8; 240],
+    pub marks: [u8; MARK_ROOM],
     pub len: usize,
 }
 
-// The index of the last of so many marks, or 240 where there is none.
+// The index of the last of so many marks, or the array's end where there is none.
 fn top(len: usize) -> usize
     ensures { λ r. ⌜ r ≡ topOf len ⌝ }
 {
-    if 0 < len { len - 1 } else { 240 }
+    if 0 < len { len - 1 } else { MARK_ROOM }
 }
 
 // Some mark before this index is 0 or 1. Past the array's end marks count as 0.
-fn gives_part(marks: &[u8; 240], before: usize) -> bool
+fn gives_part(marks: &[u8; MARK_ROOM], before: usize) -> bool
     ensures { λ r. ⌜ r ≡ givesPartIn (now (marks .entry)) before ⌝ }
 {
     let mut i = 0;
@@ -30,10 +33,10 @@ fn gives_part(marks: &[u8; 240], before: usize) -> bool
 }
 
 // The mark at an index, or 0 past the array's end.
-pub fn mark_at(marks: &[u8; 240], i: usize) -> u8
+pub fn mark_at(marks: &[u8; MARK_ROOM], i: usize) -> u8
     ensures { λ r. ⌜ r ≡ markOr 0 (now (marks .entry)) i ⌝ }
 {
-    if i < 240 { marks[i] } else { 0 }
+    if i < MARK_ROOM { marks[i] } else { 0 }
 }
 
 // A mark is 0 or 1.
@@ -41,6 +44,16 @@ pub fn is_part(mark: u8) -> bool
     ensures { λ r. ⌜ r ≡ isPart mark ⌝ }
 {
     mark < 2
+}
+
+// Mark 1 is allowed at this index: it may come first, or some mark before it is 0 or 1.
+fn one_at(first: bool, marks: &[u8; MARK_ROOM], i: usize) -> bool
+    ensures { λ r. ⌜ r ≡ oneAt first (now (marks .entry)) i ⌝ }
+{
+    if first {
+        return true;
+    }
+    gives_part(marks, i)
 }
 
 // The mark that a last mark becomes where it is not cut.
@@ -60,7 +73,7 @@ impl Trail {
     pub fn has_last(self) -> bool
         ensures { λ r. ⌜ r ≡ hasLast self ⌝ }
     {
-        top(self.len) < 240
+        top(self.len) < MARK_ROOM
     }
 
     // One mark more; a full trail stays as it is.
@@ -68,7 +81,7 @@ impl Trail {
         ensures { λ r. ⌜ r ≡ appended self mark ⌝ }
     {
         let at = self.len;
-        if at < 240 {
+        if at < MARK_ROOM {
             self.marks[at] = mark;
             self.len = at + 1;
         }
@@ -80,7 +93,7 @@ impl Trail {
         ensures { λ r. ⌜ r ≡ dropped self ⌝ }
     {
         let at = top(self.len);
-        if at < 240 {
+        if at < MARK_ROOM {
             self.marks[at] = 0;
             self.len = at;
         }
@@ -92,7 +105,7 @@ impl Trail {
         ensures { λ r. ⌜ r ≡ lastMark self none ⌝ }
     {
         let at = top(self.len);
-        if at < 240 { self.marks[at] } else { none }
+        if at < MARK_ROOM { self.marks[at] } else { none }
     }
 
     // Another last mark; a trail that has none stays as it is.
@@ -100,47 +113,41 @@ impl Trail {
         ensures { λ r. ⌜ r ≡ replaced self mark ⌝ }
     {
         let at = top(self.len);
-        if at < 240 {
+        if at < MARK_ROOM {
             self.marks[at] = mark;
         }
         self
     }
 
-    // Some mark before the last is 0 or 1.
-    fn part_before(self) -> bool
-        ensures { λ r. ⌜ r ≡ partBefore self ⌝ }
-    {
-        let marks = self.marks;
-        gives_part(&marks, top(self.len))
-    }
-
-    // Mark 1 is allowed as the last mark: it may come first, or some mark before the last is 0 or 1.
+    // Mark 1 is allowed as the last mark.
     pub fn may_be_one(self, first: bool) -> bool
         ensures { λ r. ⌜ r ≡ mayBeOne first self ⌝ }
     {
-        if first {
-            return true;
-        }
-        self.part_before()
+        one_at(first, &self.marks, top(self.len))
     }
 
     // Without the marks cut at its end.
     fn without_cuts(mut self) -> Trail
         ensures { λ r. ⌜ r ≡ uncut (self .len) self ⌝ }
     {
-        while 1 < self.last(0) {
-            self = self.drop();
+        while 1 < mark_at(&self.marks, top(self.len)) {
+            let at = self.len - 1;
+            self.marks[at] = 0;
+            self.len = at;
         }
         self
     }
 
     // With its last mark advanced, where that is not cut.
-    fn advance_last(self, first: bool) -> Trail
+    fn advance_last(mut self, first: bool) -> Trail
         ensures { λ r. ⌜ r ≡ lastAdvanced first self ⌝ }
     {
-        let allowed = self.may_be_one(first);
-        let mark = next_mark(self.last(0), allowed);
-        self.replace_last(mark)
+        let at = top(self.len);
+        let mark = next_mark(mark_at(&self.marks, at), one_at(first, &self.marks, at));
+        if at < MARK_ROOM {
+            self.marks[at] = mark;
+        }
+        self
     }
 
     // Advanced: last mark 0 becomes 1 if that may come first or some earlier mark is 0 or 1, else cut; 1 becomes cut; cut is dropped and the

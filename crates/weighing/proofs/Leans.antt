@@ -12,6 +12,7 @@ use Rattle.counting.specs.Tests.{pick, bit}
 use Rattle.counting.specs.Sums.{count}
 use Rattle.counting.proofs.Joined.{no-way, pick-true, pick-false, by-test}
 use Rattle.counting.proofs.Counted.{count-most, count-eq, count-more}
+use Rattle.model.specs.Limits.{lineRoom}
 use Rattle.model.specs.declared.Part.{Part}
 use Rattle.model.specs.declared.Part.the-variants.{Zero, One}
 use Rattle.model.specs.declared.Condition.{Condition}
@@ -23,7 +24,7 @@ use Rattle.model.specs.Bound.{saysCut, saysTorn, saysLeaning, leans, L1, L2}
 use Rattle.weighing.specs.declared.taking.Taken.{Taken}
 use Rattle.weighing.specs.declared.leaning.Kinds.{Kinds}
 use Rattle.weighing.specs.Cells.{markingIn, Cleared}
-use Rattle.weighing.specs.Taking.{TakesOpen}
+use Rattle.weighing.specs.Taking.{Roomy, TakesOpen}
 use Rattle.weighing.specs.Leaning.{leanNumber, conditionIn, LeansAll}
 use Rattle.weighing.proofs.Steps.{count-none-yet}
 
@@ -31,8 +32,8 @@ use Rattle.weighing.proofs.Steps.{count-none-yet}
 pub record LeansTo (condition : ℕ → Condition) (t cut torn : ℕ) (lean₀ lean₁ : List ℕ) : Type 0 where
   pub cut-is : cut ≡ count (λ l. saysCut (condition l)) t
   pub torn-is : torn ≡ count (λ l. saysTorn (condition l)) t
-  pub lean-is : (l : ℕ) → l < t → l < 512 → getD lean₁ l 0 ≡ leanNumber (condition l)
-  pub kept : (l : ℕ) → t ≤ l → l < 512 → getD lean₁ l 0 ≡ getD lean₀ l 0
+  pub lean-is : (l : ℕ) → l < t → l < lineRoom → getD lean₁ l 0 ≡ leanNumber (condition l)
+  pub kept : (l : ℕ) → t ≤ l → l < lineRoom → getD lean₁ l 0 ≡ getD lean₀ l 0
 
 -- before the first line
 pub leans-start : (condition : ℕ → Condition) (lean : List ℕ) → LeansTo condition 0 0 0 lean lean
@@ -49,7 +50,7 @@ pub record LeansMore (condition : ℕ → Condition) (t cut torn cut′ torn′ 
   pub cut-more : cut′ ≡ cut + bit (saysCut (condition t))
   pub torn-more : torn′ ≡ torn + bit (saysTorn (condition t))
   pub stored :
-      (l : ℕ) → l < 512 → getD lean′ l 0 ≡ pick (eqb l t) (leanNumber (condition t)) (getD lean l 0)
+      (l : ℕ) → l < lineRoom → getD lean′ l 0 ≡ pick (eqb l t) (leanNumber (condition t)) (getD lean l 0)
 
 -- one line more
 pub leans-more :
@@ -65,22 +66,22 @@ leans-more {condition} {t} {cut} {torn} {cut′} {torn′} {lean₀} {lean} {lea
       kept = λ l b c. other l c (ne-eqb l t (λ e. no-way (omega arith))) ∙ k .kept l (omega arith) c;
     }
   where
-    other : (l : ℕ) → l < 512 → eqb l t ≡ false → getD lean′ l 0 ≡ getD lean l 0
+    other : (l : ℕ) → l < lineRoom → eqb l t ≡ false → getD lean′ l 0 ≡ getD lean l 0
     other l c e = h .stored l c ∙ pick-false (leanNumber (condition t)) (getD lean l 0) e
 
-    at-line : (l : ℕ) → l < 512 → eqb l t ≡ true → getD lean′ l 0 ≡ leanNumber (condition l)
+    at-line : (l : ℕ) → l < lineRoom → eqb l t ≡ true → getD lean′ l 0 ≡ leanNumber (condition l)
     at-line l c e =
         h .stored l c
         ∙ pick-true (leanNumber (condition t)) (getD lean l 0) e
         ∙ ap (λ (x : ℕ). leanNumber (condition x)) (sym (eqb-true l t e))
 
-    passed : (l : ℕ) → l < t + 1 → l < 512 → eqb l t ≡ false → getD lean′ l 0 ≡ leanNumber (condition l)
+    passed : (l : ℕ) → l < t + 1 → l < lineRoom → eqb l t ≡ false → getD lean′ l 0 ≡ leanNumber (condition l)
     passed l b c e = other l c e ∙ k .lean-is l (omega (arith, eqb-false l t e)) c
 
 -- after the last line
 pub leans-end :
     {condition : ℕ → Condition} {t total : ℕ} {r : Kinds} {lean₀ lean₁ : List ℕ} →
-    t ≡ total → total < 512 → LeansTo condition t (r .cut) (r .torn) lean₀ lean₁ → LeansAll condition total r lean₀ lean₁
+    t ≡ total → total ≤ lineRoom → LeansTo condition t (r .cut) (r .torn) lean₀ lean₁ → LeansAll condition total r lean₀ lean₁
 leans-end {condition} {t} {total} {r} {lean₀} {lean₁} e small k =
     record {
       cut-is = k .cut-is ∙ ap (count (λ l. saysCut (condition l))) e;
@@ -128,9 +129,9 @@ condition-open (suc (suc x)) a b a′ b′ e f =
     ap (λ (y : Bool). conditionFor (suc (suc x)) y b) (e (omega arith))
     ∙ ap (λ (y : Bool). conditionFor (suc (suc x)) a′ y) (f (omega arith))
 
-module _ (marks : List ℕ) {P : Pattern} {r : Taken} {zero₀ one₀ zero₁ one₁ : List ℕ} (clear₀ : Cleared zero₀) (clear₁ : Cleared one₀) (k : TakesOpen P (markingIn marks) r zero₀ one₀ zero₁ one₁) where
+module _ (marks : List ℕ) {P : Pattern} {r : Taken} {zero₀ one₀ zero₁ one₁ : List ℕ} (clear₀ : Cleared zero₀) (clear₁ : Cleared one₀) (k : TakesOpen P (markingIn marks) r zero₀ one₀ zero₁ one₁) (roomy : Roomy P) where
   -- on arrays as the pass over the nonzeros leaves them, the condition is that of the marking
-  pub condition-in : (l : ℕ) → l < 512 → conditionIn marks zero₁ one₁ l ≡ condition P (markingIn marks) l
+  pub condition-in : (l : ℕ) → l < lineRoom → conditionIn marks zero₁ one₁ l ≡ condition P (markingIn marks) l
   unfolding conditionIn condition
   condition-in l b =
       condition-open
@@ -139,10 +140,10 @@ module _ (marks : List ℕ) {P : Pattern} {r : Taken} {zero₀ one₀ zero₁ on
       (not (eqb (getD one₁ l 0) 0))
       (touched P (markingIn marks) Zero l)
       (touched P (markingIn marks) One l)
-      (λ w. stored-test (touched P (markingIn marks) Zero l) (getD zero₁ l 0) (getD zero₀ l 0) (clear₀ l b) (k .by-zero l b w))
-      (λ w. stored-test (touched P (markingIn marks) One l) (getD one₁ l 0) (getD one₀ l 0) (clear₁ l b) (k .by-one l b w))
+      (λ w. stored-test (touched P (markingIn marks) Zero l) (getD zero₁ l 0) (getD zero₀ l 0) (clear₀ l b) (k .by-zero roomy l b w))
+      (λ w. stored-test (touched P (markingIn marks) One l) (getD one₁ l 0) (getD one₀ l 0) (clear₁ l b) (k .by-one roomy l b w))
 
-  module _ {s : Kinds} {lean₀ lean₁ : List ℕ} (small : lines P < 512) (h : LeansAll (conditionIn marks zero₁ one₁) (lines P) s lean₀ lean₁) where
+  module _ {s : Kinds} {lean₀ lean₁ : List ℕ} (small : lines P ≤ lineRoom) (h : LeansAll (conditionIn marks zero₁ one₁) (lines P) s lean₀ lean₁) where
     -- the cut lines are L1
     pub cut-is-L1 : s .cut ≡ L1 P (markingIn marks)
     unfolding L1

@@ -4,20 +4,27 @@ use mathlib.Core.Bool.{Bool, true, false, not}
 use mathlib.Core.List.{List}
 use mathlib.Core.Path.{_≡_, refl, sym, _∙_, ap}
 use Prim.Native.Nat.{ℕ, _+_, _<_}
+use native.Mathlib.Nat.{mod-eq-of-lt}
 use native.Mathlib.Omega.{arith}
 use lib.Dec.{eqb}
 use lib.ListN.{length, getD, set}
 use borrow.Author.Tests.{eqb-true, eq-eqb}
 use Rattle.counting.specs.Tests.{_and_, _or_, pick, bit}
-use Rattle.weighing.specs.Cells.{raised}
+use Rattle.model.specs.Limits.{lineRoom}
+use Rattle.weighing.specs.Cells.{atLine, raised}
 use Rattle.counting.proofs.Joined.{by-test, pick-true, pick-false, and-intro, and-fails-left, and-fails-right, or-left, or-right, or-fails, bit-true, bit-false, and-all}
 use Rattle.counting.proofs.Lists.{set-pick}
 use Rattle.weighing.proofs.Steps.{pick-both}
 
+-- a line that the array has room for is not folded
+pub at-line : (xs : List ℕ) (l : ℕ) → l < lineRoom → atLine xs l ≡ getD xs l 0
+unfolding atLine
+at-line xs l b = ap (λ (i : ℕ). getD xs i 0) (mod-eq-of-lt b)
+
 -- a store under a test that passes
 pub put-passed :
-    (xs ys : List ℕ) (i v : ℕ) (test : Bool) → test ≡ true → ys ≡ set xs i v → length xs ≡ 512 →
-    (l : ℕ) → l < 512 → getD ys l 0 ≡ pick (eqb l i and test) v (getD xs l 0)
+    (xs ys : List ℕ) (i v : ℕ) (test : Bool) → test ≡ true → ys ≡ set xs i v → length xs ≡ lineRoom →
+    (l : ℕ) → l < lineRoom → getD ys l 0 ≡ pick (eqb l i and test) v (getD xs l 0)
 put-passed xs ys i v test t e long l b =
     ap (λ (zs : List ℕ). getD zs l 0) e
     ∙ set-pick xs i l v (omega arith)
@@ -26,15 +33,15 @@ put-passed xs ys i v test t e long l b =
 -- and under one that fails
 pub put-failed :
     (xs : List ℕ) (i v : ℕ) (test : Bool) → test ≡ false →
-    (l : ℕ) → l < 512 → getD xs l 0 ≡ pick (eqb l i and test) v (getD xs l 0)
+    (l : ℕ) → l < lineRoom → getD xs l 0 ≡ pick (eqb l i and test) v (getD xs l 0)
 put-failed xs i v test t l b = sym (pick-false v (getD xs l 0) (and-fails-right (eqb l i) t))
 
 -- two stores under one test, one after the other
 pub put-twice :
     (xs ys zs : List ℕ) (row column r k v : ℕ) (test : Bool) → r ≡ row → k ≡ column →
-    ((l : ℕ) → l < 512 → getD ys l 0 ≡ pick (eqb l r and test) v (getD xs l 0)) →
-    ((l : ℕ) → l < 512 → getD zs l 0 ≡ pick (eqb l k and test) v (getD ys l 0)) →
-    (l : ℕ) → l < 512 → getD zs l 0 ≡ pick ((eqb l row or eqb l column) and test) v (getD xs l 0)
+    ((l : ℕ) → l < lineRoom → getD ys l 0 ≡ pick (eqb l r and test) v (getD xs l 0)) →
+    ((l : ℕ) → l < lineRoom → getD zs l 0 ≡ pick (eqb l k and test) v (getD ys l 0)) →
+    (l : ℕ) → l < lineRoom → getD zs l 0 ≡ pick ((eqb l row or eqb l column) and test) v (getD xs l 0)
 put-twice xs ys zs row column r k v test e f first second l b =
     second l b
     ∙ ap (λ (x : ℕ). pick (eqb l k and test) v x) (first l b)
@@ -44,16 +51,16 @@ put-twice xs ys zs row column r k v test e f first second l b =
 
 -- a store without a test
 pub put-plain :
-    (xs ys : List ℕ) (i v : ℕ) → ys ≡ set xs i v → length xs ≡ 512 →
-    (l : ℕ) → l < 512 → getD ys l 0 ≡ pick (eqb l i) v (getD xs l 0)
+    (xs ys : List ℕ) (i v : ℕ) → ys ≡ set xs i v → length xs ≡ lineRoom →
+    (l : ℕ) → l < lineRoom → getD ys l 0 ≡ pick (eqb l i) v (getD xs l 0)
 put-plain xs ys i v e long l b =
     ap (λ (zs : List ℕ). getD zs l 0) e ∙ set-pick xs i l v (omega arith)
 
 -- what a store says, with its value known by another name
 pub value-named :
     (xs ys : List ℕ) (i v w : ℕ) →
-    ((l : ℕ) → l < 512 → getD ys l 0 ≡ pick (eqb l i) v (getD xs l 0)) → v ≡ w →
-    (l : ℕ) → l < 512 → getD ys l 0 ≡ pick (eqb l i) w (getD xs l 0)
+    ((l : ℕ) → l < lineRoom → getD ys l 0 ≡ pick (eqb l i) v (getD xs l 0)) → v ≡ w →
+    (l : ℕ) → l < lineRoom → getD ys l 0 ≡ pick (eqb l i) w (getD xs l 0)
 value-named xs ys i v w h e l b = h l b ∙ ap (λ (x : ℕ). pick (eqb l i) x (getD xs l 0)) e
 
 -- one more than a number that two bytes hold with room to spare
@@ -122,9 +129,9 @@ raise-both l r k x true =
 
 pub raise-twice :
     (xs ys zs : List ℕ) (row column r k : ℕ) (test test′ : Bool) → r ≡ row → k ≡ column → test′ ≡ test and not (eqb k r) →
-    ((l : ℕ) → l < 512 → getD ys l 0 ≡ pick (eqb l r and test) (raised (getD xs l 0)) (getD xs l 0)) →
-    ((l : ℕ) → l < 512 → getD zs l 0 ≡ pick (eqb l k and test′) (raised (getD ys l 0)) (getD ys l 0)) →
-    (l : ℕ) → l < 512 → getD zs l 0 ≡ pick ((eqb l row or eqb l column) and test) (raised (getD xs l 0)) (getD xs l 0)
+    ((l : ℕ) → l < lineRoom → getD ys l 0 ≡ pick (eqb l r and test) (raised (getD xs l 0)) (getD xs l 0)) →
+    ((l : ℕ) → l < lineRoom → getD zs l 0 ≡ pick (eqb l k and test′) (raised (getD ys l 0)) (getD ys l 0)) →
+    (l : ℕ) → l < lineRoom → getD zs l 0 ≡ pick ((eqb l row or eqb l column) and test) (raised (getD xs l 0)) (getD xs l 0)
 raise-twice xs ys zs row column r k test test′ e f g first second l b =
     second l b
     ∙ ap (λ (z : Bool). pick (eqb l k and z) (raised (getD ys l 0)) (getD ys l 0)) g

@@ -3,7 +3,7 @@
 use mathlib.Core.Bool.{Bool, true, false}
 use mathlib.Core.List.{List}
 use mathlib.Core.Path.{_≡_, refl, sym, _∙_, ap}
-use Prim.Native.Nat.{ℕ, zero, suc, _+_, _-_, _≤_, _<_}
+use Prim.Native.Nat.{ℕ, zero, suc, _+_, _-_, _%_, _≤_, _<_}
 use native.Mathlib.Omega.{arith}
 use borrow.Author.Tests.{lt-ltb, le-ltb, ltb-true, ltb-false, eqb-true, eqb-false, eq-eqb, ne-eqb}
 use lib.Dec.{eqb, ltb}
@@ -12,6 +12,7 @@ use Rattle.counting.specs.Sums.{count, any}
 use Rattle.counting.proofs.Joined.{no-way, clash, by-test, bit-true, bit-false, and-intro, and-left, and-right, and-passed, and-fails-left, or-left, or-passed, pick-false, and-all}
 use Rattle.counting.proofs.Counted.{count-all, count-none, count-more}
 use Rattle.counting.proofs.Summed.{sum-more}
+use Rattle.model.specs.Limits.{lineRoom}
 use Rattle.model.specs.Pattern.{rowIn, columnIn}
 use Rattle.weighing.specs.Cells.{markingIn}
 use Rattle.weighing.specs.Rows.{columnHas, columnIs, StretchTo}
@@ -204,13 +205,13 @@ stored-start x y = sym (pick-false 1 y (le-ltb x x (omega arith)))
 -- one store more at a column
 pub stored-more :
     (list : List ℕ) (m l start t column x x₁ x₀ : ℕ) → start ≤ t → column ≡ m + columnIn list t →
-    x₁ ≡ pick (eqb l column) 1 x →
+    x₁ ≡ pick (eqb l (column % lineRoom)) 1 x →
     x ≡ pick (ltb (count (columnIs list m l) start) (count (columnIs list m l) t)) 1 x₀ →
     x₁ ≡ pick (ltb (count (columnIs list m l) start) (count (columnIs list m l) (t + 1))) 1 x₀
 unfolding columnIs
 stored-more list m l start t column x x₁ x₀ h g e f =
     e
-    ∙ ap (λ (z : ℕ). pick (eqb l z) 1 x) g
-    ∙ ap (λ (z : ℕ). pick (eqb l (m + columnIn list t)) 1 z) f
-    ∙ pick-or _ (eqb l (m + columnIn list t)) 1 x₀
-    ∙ ap (λ (z : Bool). pick z 1 x₀) (sym (risen-more (count (columnIs list m l) start) (count (columnIs list m l) t) (count (columnIs list m l) (t + 1)) (eqb l (m + columnIn list t)) (stretch-grows (columnIs list m l) start t h) (count-more (columnIs list m l) t)))
+    ∙ ap (λ (z : ℕ). pick (eqb l (z % lineRoom)) 1 x) g
+    ∙ ap (λ (z : ℕ). pick (eqb l ((m + columnIn list t) % lineRoom)) 1 z) f
+    ∙ pick-or _ (eqb l ((m + columnIn list t) % lineRoom)) 1 x₀
+    ∙ ap (λ (z : Bool). pick z 1 x₀) (sym (risen-more (count (columnIs list m l) start) (count (columnIs list m l) t) (count (columnIs list m l) (t + 1)) (eqb l ((m + columnIn list t) % lineRoom)) (stretch-grows (columnIs list m l) start t h) (count-more (columnIs list m l) t)))

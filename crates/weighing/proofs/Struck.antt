@@ -14,15 +14,16 @@ use Rattle.counting.specs.Tests.{_and_}
 use Rattle.counting.specs.Sums.{sum, count}
 use Rattle.counting.proofs.Joined.{no-way, by-test, and-left, and-right, and-cases, and-fails-right, pick-true, pick-false}
 use Rattle.counting.proofs.Counted.{count-eq, count-none}
+use Rattle.model.specs.Limits.{lineLimit}
 use Rattle.model.specs.declared.Part.{Part}
 use Rattle.model.specs.declared.Caps.{Caps}
-use Rattle.model.specs.Pattern.{Pattern, lines}
+use Rattle.model.specs.Pattern.{Pattern, lines, lineCount}
 use Rattle.model.specs.Split.{partNumber, capOf}
 use Rattle.model.specs.Marking.{Marking, taken}
 use Rattle.model.specs.Bound.{leans, untakenOn, atStake, falling, leaningCounts, strikes, struck}
-use Rattle.model.proofs.Bound.Struck.{untaken-most}
+use Rattle.model.proofs.Bound.Struck.{untaken-most, untaken-line}
 use Rattle.model.proofs.Alike.Bounds.{falling-eq}
-use Rattle.weighing.specs.Striking.{linesAt, leftOf, struckIn, Tallied}
+use Rattle.weighing.specs.Striking.{weightRoom, linesAt, leftOf, struckIn, Tallied}
 use Rattle.weighing.proofs.Tally.{lines-total}
 
 -- where s is within the room nothing is struck
@@ -180,10 +181,10 @@ falling-top h top (suc n) b e =
 
 module _ (lean weights : List ℕ) (part total : ℕ) {counts : List ℕ} {top : ℕ} (k : Tallied (linesAt lean weights part total) counts top) where
   -- the tally's weights, most first, are those of the lines
-  tally-falling : falling (λ x. getD counts x 0) top ≡ falling (linesAt lean weights part total) 2000
+  tally-falling : falling (λ x. getD counts x 0) top ≡ falling (linesAt lean weights part total) lineLimit
   tally-falling =
       falling-eq (λ x. getD counts x 0) (linesAt lean weights part total) top (λ x b. k .counts-are x (omega (arith, k .top-small)))
-      ∙ sym (falling-top (linesAt lean weights part total) top 2000 (k .top-small) (λ x b c. k .above-none x b (omega arith)))
+      ∙ sym (falling-top (linesAt lean weights part total) top lineLimit (k .top-small) (λ x b c. k .above-none x b (omega arith)))
 
   -- what is struck from the greatest weight met down is what is to be struck
   pub tally-struck :
@@ -198,9 +199,9 @@ unfolding struckIn
 struck-most lean weights part total s room =
     omega (
       arith,
-      strikes-most (falling (linesAt lean weights part total) 2000) s room,
-      falling-length (linesAt lean weights part total) 2000,
-      lines-total lean weights part total 2001,
+      strikes-most (falling (linesAt lean weights part total) lineLimit) s room,
+      falling-length (linesAt lean weights part total) lineLimit,
+      lines-total lean weights part total weightRoom,
     )
 
 -- the lines of a weight, by the arrays and by the marking
@@ -218,35 +219,41 @@ same-lines P μ p lean weights x leaning weighing =
     (λ l b. ap (λ (z : Bool). z and eqb (getD weights l 0) x) (leaning l b)
     ∙ ap (λ (z : ℕ). leans P μ p l and eqb z x) (weighing l b))
 
--- no line has more untaken nonzeros than there are nonzeros
+-- no line has more untaken nonzeros than nonzeros
 heavy-none :
-    (P : Pattern) (μ : Marking) (p : Part) (x : ℕ) →
-    P .size < x → count (λ l. leans P μ p l and eqb (untakenOn P μ l) x) (lines P) ≡ 0
-heavy-none P μ p x b =
+    (P : Pattern) (μ : Marking) (p : Part) (most x : ℕ) → ((l : ℕ) → l < lines P → untakenOn P μ l ≤ most) →
+    most < x → count (λ l. leans P μ p l and eqb (untakenOn P μ l) x) (lines P) ≡ 0
+heavy-none P μ p most x few b =
     count-none
     (λ l. leans P μ p l and eqb (untakenOn P μ l) x)
     (lines P)
-    (λ l c. and-fails-right (leans P μ p l) (ne-eqb (untakenOn P μ l) x (λ e. no-way (omega (arith, untaken-most P μ l)))))
+    (λ l c. and-fails-right (leans P μ p l) (ne-eqb (untakenOn P μ l) x (λ e. no-way (omega (arith, few l c)))))
 
--- with arrays of how lines lean and of their untaken nonzeros, the lines struck are those of L3
+-- weights above both of two tops that no line has: either top will do
+falling-either :
+    (h : ℕ → ℕ) (a b : ℕ) → ((x : ℕ) → a < x → h x ≡ 0) → ((x : ℕ) → b < x → h x ≡ 0) → falling h a ≡ falling h b
+falling-either h a b above below =
+    by-test
+    (leb a b)
+    (λ e. sym (falling-top h a b (leb-true a b e) (λ x c d. above x c)))
+    (λ e. let l : b < a = leb-false a b e in falling-top h b a (omega arith) (λ x c d. below x c))
+
+-- with arrays of how lines lean and of their untaken nonzeros, the lines struck are those of L3, where no line has more nonzeros than lineLimit
 pub struck-is :
     (P : Pattern) (μ : Marking) (p : Part) (caps : Caps) (lean weights : List ℕ) →
-    P .size ≤ 2000 →
+    ((l : ℕ) → l < lines P → lineCount P l ≤ lineLimit) →
     ((l : ℕ) → l < lines P → eqb (getD lean l 0) (partNumber p) ≡ leans P μ p l) →
     ((l : ℕ) → l < lines P → getD weights l 0 ≡ untakenOn P μ l) →
     struckIn lean weights (partNumber p) (lines P) (atStake P μ p) (capOf caps p - taken P μ p) ≡ struck P caps μ p
 unfolding struckIn struck leaningCounts
-struck-is P μ p caps lean weights small leaning weighing =
+struck-is P μ p caps lean weights thin leaning weighing =
     ap
     (λ (zs : List ℕ). strikes zs (atStake P μ p) (capOf caps p - taken P μ p))
-    (falling-eq (linesAt lean weights (partNumber p) (lines P)) model 2000 same ∙ falling-top model (P .size) 2000 small none)
+    (falling-eq (linesAt lean weights (partNumber p) (lines P)) model lineLimit (λ x b. same-lines P μ p lean weights x leaning weighing)
+    ∙ falling-either model lineLimit (P .size) light (λ x b. heavy-none P μ p (P .size) x (λ l c. untaken-most P μ l) b))
   where
     model : ℕ → ℕ
     model x = count (λ l. leans P μ p l and eqb (untakenOn P μ l) x) (lines P)
 
-    same : (x : ℕ) → x ≤ 2000 → linesAt lean weights (partNumber p) (lines P) x ≡ model x
-    same x b =
-        same-lines P μ p lean weights x leaning weighing
-
-    none : (x : ℕ) → P .size < x → x ≤ 2000 → model x ≡ 0
-    none x b c = heavy-none P μ p x b
+    light : (x : ℕ) → lineLimit < x → model x ≡ 0
+    light x b = heavy-none P μ p lineLimit x (λ l c. omega (arith, untaken-line P μ l, thin l c)) b

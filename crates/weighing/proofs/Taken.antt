@@ -11,6 +11,7 @@ use Rattle.counting.specs.Tests.{_and_, _or_, pick, bit}
 use Rattle.counting.specs.Sums.{count, any}
 use Rattle.counting.proofs.Joined.{pick-false, and-fails-left}
 use Rattle.counting.proofs.Counted.{count-most, count-more, any-more}
+use Rattle.model.specs.Limits.{lineRoom}
 use Rattle.model.specs.declared.Part.{Part}
 use Rattle.model.specs.declared.Part.the-variants.{Zero, One}
 use Rattle.model.specs.declared.Caps.{Caps}
@@ -45,10 +46,10 @@ pub record TakenTo (P : Pattern) (μ : Marking) (t zero one : ℕ) (both : Bool)
   pub one-is : one ≡ count (takes P μ One) t
   pub both-is : both ≡ any (λ s. takes P μ Zero s and takes P μ One s) t
   pub by-zero :
-      (l : ℕ) → l < 512 →
+      (l : ℕ) → l < lineRoom →
       getD zero₁ l 0 ≡ pick (any (λ s. on P l s and takes P μ Zero s) t) 1 (getD zero₀ l 0)
   pub by-one :
-      (l : ℕ) → l < 512 →
+      (l : ℕ) → l < lineRoom →
       getD one₁ l 0 ≡ pick (any (λ s. on P l s and takes P μ One s) t) 1 (getD one₀ l 0)
 
 -- before the first nonzero
@@ -77,8 +78,8 @@ pub record TakenMore (P : Pattern) (μ : Marking) (t zero one zero′ one′ : �
   pub zero-more : zero′ ≡ zero + bit (takes P μ Zero t)
   pub one-more : one′ ≡ one + bit (takes P μ One t)
   pub both-more : both′ ≡ both or (takes P μ Zero t and takes P μ One t)
-  pub lines-zero : (l : ℕ) → l < 512 → getD z′ l 0 ≡ pick (on P l t and takes P μ Zero t) 1 (getD z l 0)
-  pub lines-one : (l : ℕ) → l < 512 → getD o′ l 0 ≡ pick (on P l t and takes P μ One t) 1 (getD o l 0)
+  pub lines-zero : (l : ℕ) → l < lineRoom → getD z′ l 0 ≡ pick (on P l t and takes P μ Zero t) 1 (getD z l 0)
+  pub lines-one : (l : ℕ) → l < lineRoom → getD o′ l 0 ≡ pick (on P l t and takes P μ One t) 1 (getD o l 0)
 
 -- one nonzero more
 pub taken-more :

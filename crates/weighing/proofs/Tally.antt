@@ -13,8 +13,9 @@ use Rattle.counting.specs.Sums.{sum, count}
 use Rattle.counting.proofs.Joined.{no-way, by-test, both-ways, and-intro, and-left, and-right, pick-true, pick-false, bit-true, bit-false}
 use Rattle.counting.proofs.Summed.{sum-le, sum-swap}
 use Rattle.counting.proofs.Counted.{count-most, count-one, count-all, count-more}
+use Rattle.model.specs.Limits.{lineLimit}
 use Rattle.weighing.specs.Cells.{raised}
-use Rattle.weighing.specs.Striking.{linesAt, Tallied}
+use Rattle.weighing.specs.Striking.{weightRoom, linesAt, Tallied}
 use Rattle.weighing.proofs.Steps.{count-none-yet}
 use Rattle.weighing.proofs.Stores.{raised-bit}
 
@@ -68,7 +69,7 @@ lines-total lean weights part total top =
 -- before the first line
 pub tallied-start :
     (lean weights counts : List ℕ) (part : ℕ) →
-    ((x : ℕ) → x < 2001 → getD counts x 0 ≡ 0) → Tallied (linesAt lean weights part 0) counts 0
+    ((x : ℕ) → x < weightRoom → getD counts x 0 ≡ 0) → Tallied (linesAt lean weights part 0) counts 0
 tallied-start lean weights counts part clear =
     record {
       counts-are = λ x b. clear x b ∙ sym (lines-none lean weights part x);
@@ -86,23 +87,23 @@ turned x w test =
     (λ e. and-intro (eq-eqb x w (sym (eqb-true w x (and-right test (eqb w x) e)))) (and-left test (eqb w x) e))
 
 -- the greatest weight met, after one line more
-module _ (top w top′ : ℕ) (test : Bool) (small : top ≤ 2000) (e : top′ ≡ pick (test and (leb w 2000 and ltb top w)) w top) where
-  top-cases : (top ≤ top′) × (top′ ≤ 2000)
+module _ (top w top′ : ℕ) (test : Bool) (small : top ≤ lineLimit) (e : top′ ≡ pick (test and (leb w lineLimit and ltb top w)) w top) where
+  top-cases : (top ≤ top′) × (top′ ≤ lineLimit)
   top-cases =
       by-test
-      (test and (leb w 2000 and ltb top w))
-      (λ h. let g = and-right test (leb w 2000 and ltb top w) h in
-      let a : w ≤ 2000 = leb-true w 2000 (and-left (leb w 2000) (ltb top w) g) in
-      let b : top < w = ltb-true top w (and-right (leb w 2000) (ltb top w) g) in
+      (test and (leb w lineLimit and ltb top w))
+      (λ h. let g = and-right test (leb w lineLimit and ltb top w) h in
+      let a : w ≤ lineLimit = leb-true w lineLimit (and-left (leb w lineLimit) (ltb top w) g) in
+      let b : top < w = ltb-true top w (and-right (leb w lineLimit) (ltb top w) g) in
       let q : top′ ≡ w = e ∙ pick-true w top h in
       (omega arith, omega arith))
       (λ h. let q : top′ ≡ top = e ∙ pick-false w top h in (omega arith, omega arith))
 
-  top-meets : test ≡ true → w ≤ 2000 → w ≤ top′
+  top-meets : test ≡ true → w ≤ lineLimit → w ≤ top′
   top-meets pass b =
       by-test
       (ltb top w)
-      (λ h. let q : top′ ≡ w = e ∙ pick-true w top (and-intro pass (and-intro (le-leb w 2000 b) h)) in omega arith)
+      (λ h. let q : top′ ≡ w = e ∙ pick-true w top (and-intro pass (and-intro (le-leb w lineLimit b) h)) in omega arith)
       (λ h. let q : w ≤ top = ltb-false top w h in omega (arith, top-cases .0))
 
 -- one line more
@@ -112,8 +113,8 @@ pub tallied-more :
     Tallied (linesAt lean weights part t) counts top →
     test ≡ eqb (getD lean t 0) part →
     w ≡ getD weights t 0 →
-    ((x : ℕ) → x < 2001 → getD counts′ x 0 ≡ pick (eqb x w and test) (raised (getD counts x 0)) (getD counts x 0)) →
-    top′ ≡ pick (test and (leb w 2000 and ltb top w)) w top →
+    ((x : ℕ) → x < weightRoom → getD counts′ x 0 ≡ pick (eqb x w and test) (raised (getD counts x 0)) (getD counts x 0)) →
+    top′ ≡ pick (test and (leb w lineLimit and ltb top w)) w top →
     Tallied (linesAt lean weights part (t + 1)) counts′ top′
 tallied-more lean weights part t {counts} {counts′} {top} {top′} {w} {test} b k leans weighs stored e =
     record { counts-are = counted; top-small = top-cases top w top′ test (k .top-small) e .1; above-none = none }
@@ -121,7 +122,7 @@ tallied-more lean weights part t {counts} {counts′} {top} {top′} {w} {test} 
     named : (x : ℕ) → eqb (getD lean t 0) part and eqb (getD weights t 0) x ≡ test and eqb w x
     named x = rw (leans, weighs)
 
-    counted : (x : ℕ) → x < 2001 → getD counts′ x 0 ≡ linesAt lean weights part (t + 1) x
+    counted : (x : ℕ) → x < weightRoom → getD counts′ x 0 ≡ linesAt lean weights part (t + 1) x
     counted x c =
         omega (
           arith,
@@ -136,7 +137,7 @@ tallied-more lean weights part t {counts} {counts′} {top} {top′} {w} {test} 
           ap bit (turned x w test ∙ sym (named x)),
         )
 
-    none : (x : ℕ) → top′ < x → x < 2001 → linesAt lean weights part (t + 1) x ≡ 0
+    none : (x : ℕ) → top′ < x → x < weightRoom → linesAt lean weights part (t + 1) x ≡ 0
     none x c d =
         by-test
         (test and eqb w x)

@@ -2,16 +2,18 @@
 -- Assumes nothing.
 use mathlib.Core.Bool.{Bool, true, false, not}
 use mathlib.Core.List.{List}
+use mathlib.Core.Logic.{⊎-elim}
 use mathlib.Core.Path.{_≡_, sym, _∙_, ap}
 use Prim.Native.Nat.{ℕ, _+_, _≤_, _<_}
 use native.Mathlib.Omega.{arith}
-use borrow.Author.Tests.{ltb-true, eqb-false, eq-eqb, ne-eqb}
+use borrow.Author.Tests.{ltb-true, eqb-true, eqb-false, eq-eqb, ne-eqb}
 use lib.Dec.{eqb, ltb}
 use lib.ListN.{getD}
 use Rattle.counting.specs.Tests.{_and_, _or_, bit}
 use Rattle.counting.specs.Sums.{count}
-use Rattle.counting.proofs.Joined.{by-test, bit-false, and-left, and-right, and-fails-left, and-fails-right, or-left, or-right, or-fails, pick-false}
+use Rattle.counting.proofs.Joined.{by-test, both-ways, bit-false, and-intro, and-left, and-right, and-fails-left, and-fails-right, or-left, or-right, or-cases, or-fails, pick-false}
 use Rattle.counting.proofs.Counted.{count-most, count-eq, count-more}
+use Rattle.model.specs.Limits.{lineRoom}
 use Rattle.model.specs.declared.Part.{Part}
 use Rattle.model.specs.declared.Part.the-variants.{Zero, One}
 use Rattle.model.specs.Pattern.{Pattern, Inside, patternOf, rowIn, columnIn, lines, rowLine, columnLine, on}
@@ -21,10 +23,10 @@ use Rattle.model.specs.Bound.{leans, untaken, untakenOn, atStake, conflict}
 use Rattle.model.specs.Matching.{conflicts}
 use Rattle.model.proofs.Split.Lines.{row-line-in, column-line-in}
 use Rattle.weighing.specs.declared.weights.Stakes.{Stakes}
-use Rattle.weighing.specs.Cells.{markingIn, Cleared}
+use Rattle.weighing.specs.Cells.{atLine, markingIn, Cleared}
 use Rattle.weighing.specs.Weights.{leansIn, stakeIn, conflictIn, WeighsAll, WeighsMore}
 use Rattle.weighing.proofs.Steps.{count-none-yet}
-use Rattle.weighing.proofs.Stores.{raised-bit}
+use Rattle.weighing.proofs.Stores.{at-line, raised-bit}
 
 module _ (m n nonzeros : ℕ) (list marks lean : List ℕ) (t row column : ℕ) (r : Bool) (a : row ≡ rowIn list t) (b : column ≡ columnIn list t) where
   -- a nonzero is untaken, by the bytes of its row and column
@@ -40,17 +42,32 @@ module _ (m n nonzeros : ℕ) (list marks lean : List ℕ) (t row column : ℕ) 
   -- it is a conflict
   pub conflict-code :
       r
-      ≡ (eqb (getD lean row 0) 0 and eqb (getD lean (m + column) 0) 1)
-      or (eqb (getD lean row 0) 1 and eqb (getD lean (m + column) 0) 0) →
+      ≡ (eqb (atLine lean row) 0 and eqb (atLine lean (m + column)) 1)
+      or (eqb (atLine lean row) 1 and eqb (atLine lean (m + column)) 0) →
       r ≡ conflictIn (patternOf m n nonzeros list) lean t
   unfolding conflictIn patternOf rowLine columnLine
   conflict-code e = e ∙ rw (a, b)
+
+-- 0 and 1 alone add up to 1
+pub sum-one : (a b : ℕ) → eqb (a + b) 1 ≡ (eqb a 0 and eqb b 1) or (eqb a 1 and eqb b 0)
+sum-one a b =
+    both-ways
+    (eqb (a + b) 1)
+    ((eqb a 0 and eqb b 1) or (eqb a 1 and eqb b 0))
+    (λ e. by-test
+    (eqb a 0)
+    (λ z. or-left _ (and-intro z (eq-eqb b 1 (omega (arith, eqb-true (a + b) 1 e, eqb-true a 0 z)))))
+    (λ z. or-right _ (and-intro (eq-eqb a 1 (omega (arith, eqb-true (a + b) 1 e, eqb-false a 0 z))) (eq-eqb b 0 (omega (arith, eqb-true (a + b) 1 e, eqb-false a 0 z))))))
+    (λ e. ⊎-elim
+    (λ h. eq-eqb (a + b) 1 (omega (arith, eqb-true a 0 (and-left _ _ h), eqb-true b 1 (and-right (eqb a 0) _ h))))
+    (λ h. eq-eqb (a + b) 1 (omega (arith, eqb-true a 1 (and-left _ _ h), eqb-true b 0 (and-right (eqb a 1) _ h))))
+    (or-cases (eqb a 0 and eqb b 1) (eqb a 1 and eqb b 0) e))
 
 -- what it adds to s of a part
 pub stake-code :
     (m n nonzeros : ℕ) (list marks lean : List ℕ) (t row column part r : ℕ) (free : Bool) → row ≡ rowIn list t → column ≡ columnIn list t →
     free ≡ untaken (patternOf m n nonzeros list) (markingIn marks) t →
-    r ≡ bit (free and (eqb (getD lean row 0) part or eqb (getD lean (m + column) 0) part)) →
+    r ≡ bit (free and (eqb (atLine lean row) part or eqb (atLine lean (m + column)) part)) →
     r ≡ bit (untaken (patternOf m n nonzeros list) (markingIn marks) t and leansIn (patternOf m n nonzeros list) lean part t)
 unfolding leansIn patternOf rowLine columnLine
 stake-code m n nonzeros list marks lean t row column part r free a b f e = e ∙ rw (a, b, f)
@@ -82,7 +99,7 @@ pub record WeighsTo (P : Pattern) (μ : Marking) (lean : List ℕ) (t zero one c
   pub zero-is : zero ≡ count (λ s. untaken P μ s and leansIn P lean 0 s) t
   pub one-is : one ≡ count (λ s. untaken P μ s and leansIn P lean 1 s) t
   pub conflicts-is : conflicts ≡ count (conflictIn P lean) t
-  pub weights-are : (l : ℕ) → l < 512 → getD weights l 0 ≡ count (λ s. on P l s and untaken P μ s) t
+  pub weights-are : (l : ℕ) → l < lineRoom → getD weights l 0 ≡ count (λ s. on P l s and untaken P μ s) t
 
 -- before the first nonzero
 pub weighs-start :
@@ -110,7 +127,7 @@ weighs-more {P} {μ} {lean} {t} {zero} {one} {conflicts} {zero′} {one′} {con
       weights-are = weighed;
     }
   where
-    weighed : (l : ℕ) → l < 512 → getD weights′ l 0 ≡ count (λ s. on P l s and untaken P μ s) (t + 1)
+    weighed : (l : ℕ) → l < lineRoom → getD weights′ l 0 ≡ count (λ s. on P l s and untaken P μ s) (t + 1)
     weighed l b =
         omega (
           arith,
@@ -151,26 +168,30 @@ stakes-small {P} {μ} {lean} {t} k = (
 abbrev pub LeansRight : Pattern → Marking → List ℕ → Type 0
 LeansRight P μ lean = (p : Part) (l : ℕ) → l < lines P → eqb (getD lean l 0) (partNumber p) ≡ leans P μ p l
 
-module _ (P : Pattern) (μ : Marking) (lean : List ℕ) (i : Inside P) (right : LeansRight P μ lean) where
+module _ (P : Pattern) (μ : Marking) (lean : List ℕ) (i : Inside P) (few : lines P ≤ lineRoom) (right : LeansRight P μ lean) where
+  -- the same where lines are folded into the array
+  folded : (p : Part) (l : ℕ) → l < lines P → eqb (atLine lean l) (partNumber p) ≡ leans P μ p l
+  folded p l b = ap (λ (x : ℕ). eqb x (partNumber p)) (at-line lean l (omega arith)) ∙ right p l b
+
   -- the stake by the array is that of the marking
   pub stake-is : (p : Part) → stakeIn P μ lean (partNumber p) ≡ atStake P μ p
   unfolding stakeIn leansIn atStake
   stake-is p =
       count-eq
-      (λ t. untaken P μ t and (eqb (getD lean (rowLine P t) 0) (partNumber p) or eqb (getD lean (columnLine P t) 0) (partNumber p)))
+      (λ t. untaken P μ t and (eqb (atLine lean (rowLine P t)) (partNumber p) or eqb (atLine lean (columnLine P t)) (partNumber p)))
       (λ t. untaken P μ t and (leans P μ p (rowLine P t) or leans P μ p (columnLine P t)))
       (P .size)
-      (λ t b. rw (right p (rowLine P t) (row-line-in P t i b), right p (columnLine P t) (column-line-in P t i b)))
+      (λ t b. rw (folded p (rowLine P t) (row-line-in P t i b), folded p (columnLine P t) (column-line-in P t i b)))
 
   -- a conflict by the array is one of the marking
   pub conflict-is : (t : ℕ) → t < P .size → conflictIn P lean t ≡ conflict P μ t
   unfolding conflictIn conflict
   conflict-is t b =
       rw (
-        right Zero (rowLine P t) (row-line-in P t i b),
-        right One (columnLine P t) (column-line-in P t i b),
-        right One (rowLine P t) (row-line-in P t i b),
-        right Zero (columnLine P t) (column-line-in P t i b),
+        folded Zero (rowLine P t) (row-line-in P t i b),
+        folded One (columnLine P t) (column-line-in P t i b),
+        folded One (rowLine P t) (row-line-in P t i b),
+        folded Zero (columnLine P t) (column-line-in P t i b),
       )
 
   -- there are as many
@@ -192,14 +213,14 @@ row-untaken m n nonzeros list μ t row e h =
 
 -- and no conflict where its row does not lean
 row-apart :
-    (m n nonzeros : ℕ) (list lean : List ℕ) (t row : ℕ) → row ≡ rowIn list t → 1 < getD lean row 0 →
+    (m n nonzeros : ℕ) (list lean : List ℕ) (t row : ℕ) → row ≡ rowIn list t → 1 < atLine lean row →
     conflictIn (patternOf m n nonzeros list) lean t ≡ false
 unfolding conflictIn patternOf rowLine columnLine
 row-apart m n nonzeros list lean t row e h =
-    let b : 1 < getD lean (rowIn list t) 0 = omega (arith, h, ap (λ (x : ℕ). getD lean x 0) e) in
+    let b : 1 < atLine lean (rowIn list t) = omega (arith, h, ap (atLine lean) e) in
     or-fails
-    (and-fails-left _ (ne-eqb (getD lean (rowIn list t) 0) 0 (λ f. omega (arith, b, f))))
-    (and-fails-left _ (ne-eqb (getD lean (rowIn list t) 0) 1 (λ f. omega (arith, b, f))))
+    (and-fails-left _ (ne-eqb (atLine lean (rowIn list t)) 0 (λ f. omega (arith, b, f))))
+    (and-fails-left _ (ne-eqb (atLine lean (rowIn list t)) 1 (λ f. omega (arith, b, f))))
 
 -- a taken nonzero adds a conflict or nothing
 pub taken-adds :
@@ -216,9 +237,9 @@ taken-adds {P} {μ} {lean} {t} {x} {y} {z} {z′} {weights} u e =
 -- a nonzero whose row is marked 0 or 1 and does not lean adds nothing
 pub idle-adds :
     (m n nonzeros : ℕ) (list : List ℕ) (μ : Marking) (lean : List ℕ) (t row x y z : ℕ) (weights : List ℕ) → row ≡ rowIn list t →
-    ltb (μ row) 2 and ltb 1 (getD lean row 0) ≡ true →
+    ltb (μ row) 2 and ltb 1 (atLine lean row) ≡ true →
     WeighsMore (patternOf m n nonzeros list) μ lean t x y z x y z weights weights
 idle-adds m n nonzeros list μ lean t row x y z weights e h =
     taken-adds
     (row-untaken m n nonzeros list μ t row e (ltb-true (μ row) 2 (and-left _ _ h)))
-    (omega (arith, bit-false _ (row-apart m n nonzeros list lean t row e (ltb-true 1 (getD lean row 0) (and-right _ _ h)))))
+    (omega (arith, bit-false _ (row-apart m n nonzeros list lean t row e (ltb-true 1 (atLine lean row) (and-right _ _ h)))))

@@ -7,6 +7,7 @@ use Prim.Native.Nat.{ℕ, _≤_, _<_}
 use lib.Dec.{eqb}
 use lib.ListN.{getD}
 use Rattle.counting.specs.Sums.{count}
+use Rattle.model.specs.Limits.{lineRoom}
 use Rattle.model.specs.declared.Part.the-variants.{Zero, One}
 use Rattle.model.specs.declared.Condition.{Condition}
 use Rattle.model.specs.declared.Condition.the-variants.{Marked, Torn, Leaning, Untouched}
@@ -33,4 +34,4 @@ pub record LeansAll (condition : ℕ → Condition) (total : ℕ) (r : Kinds) (l
   pub cut-is : r .cut ≡ count (λ l. saysCut (condition l)) total
   pub torn-is : r .torn ≡ count (λ l. saysTorn (condition l)) total
   pub lean-is : (l : ℕ) → l < total → getD lean₁ l 0 ≡ leanNumber (condition l)
-  pub kept : (l : ℕ) → total ≤ l → l < 512 → getD lean₁ l 0 ≡ getD lean₀ l 0
+  pub kept : (l : ℕ) → total ≤ l → l < lineRoom → getD lean₁ l 0 ≡ getD lean₀ l 0

@@ -2,11 +2,12 @@
 -- Assumes nothing.
 use mathlib.Core.List.{List}
 use mathlib.Core.Path.{_≡_}
-use Prim.Native.Nat.{ℕ, zero, suc, _-_, _≤_, _<_}
+use Prim.Native.Nat.{ℕ, zero, suc, _+_, _-_, _≤_, _<_}
 use lib.Dec.{eqb, leb}
 use lib.ListN.{getD}
 use Rattle.counting.specs.Tests.{_and_, pick}
 use Rattle.counting.specs.Sums.{count}
+use Rattle.model.specs.Limits.{lineLimit}
 use Rattle.model.specs.Bound.{falling, strikes}
 
 -- the number of lines below a bound that lean to a part and have weight x
@@ -19,13 +20,17 @@ unfoldable pub leftOf : ℕ → ℕ → ℕ → ℕ → ℕ
 leftOf zero weight s room = s
 leftOf (suc lines) weight s room = pick (leb s room) s (leftOf lines weight (s - weight) room)
 
--- the number of lines struck for a part: lines with a weight over 2000 are passed over
+-- weights of lines: 0 to lineLimit, as no line of an accepted list has more nonzeros
+abbrev pub weightRoom : ℕ
+weightRoom = lineLimit + 1
+
+-- the number of lines struck for a part: lines with a greater weight are passed over
 unfoldable pub struckIn : List ℕ → List ℕ → ℕ → ℕ → ℕ → ℕ → ℕ
 struckIn lean weights part total s room =
-    strikes (falling (linesAt lean weights part total) 2000) s room
+    strikes (falling (linesAt lean weights part total) lineLimit) s room
 
 -- a tally of lines by weight, and the greatest weight met
 pub record Tallied (lines : ℕ → ℕ) (counts : List ℕ) (top : ℕ) : Type 0 where
-  pub counts-are : (x : ℕ) → x < 2001 → getD counts x 0 ≡ lines x
-  pub top-small : top ≤ 2000
-  pub above-none : (x : ℕ) → top < x → x < 2001 → lines x ≡ 0
+  pub counts-are : (x : ℕ) → x < weightRoom → getD counts x 0 ≡ lines x
+  pub top-small : top ≤ lineLimit
+  pub above-none : (x : ℕ) → top < x → x < weightRoom → lines x ≡ 0

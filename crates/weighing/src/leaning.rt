@@ -6,11 +6,14 @@ use counting::joining::bit_of;
 use model::Condition;
 use model::Mark;
 use model::Part;
-use pattern::reading::wide;
+use model::limits::LINE_ROOM;
+use pattern::reading::wide16;
+use pattern::room::lines_of;
 ghost use mathlib.Core.Bool.{not};
 ghost use mathlib.Core.Path.{_≡_};
 ghost use Prim.Native.Nat.{_+_};
 ghost use lib.Dec.{eqb};
+ghost use Rattle.pattern.specs.Room.{within};
 ghost use Rattle.model.specs.Marking.{conditionFor};
 ghost use Rattle.model.specs.Bound.{saysCut, saysTorn};
 ghost use Rattle.weighing.specs.Leaning.{leanNumber, conditionIn, LeansAll};
@@ -91,9 +94,9 @@ fn is_torn(condition: Condition) -> bool
 
 // The condition of a line, from three arrays.
 fn condition_at(
-    marks: &[u8; 512],
-    by_zero: &[u8; 512],
-    by_one: &[u8; 512],
+    marks: &[u8; LINE_ROOM],
+    by_zero: &[u8; LINE_ROOM],
+    by_one: &[u8; LINE_ROOM],
     line: usize,
 ) -> Condition
     ensures { λ r. ⌜ r ≡ conditionIn (now (marks .entry)) (now («by_zero» .entry)) (now («by_one» .entry)) line ⌝ }
@@ -106,17 +109,17 @@ fn condition_at(
 
 // How each line leans, as its number in an array; the numbers of cut and torn lines.
 pub fn lean_all(
-    m: u8,
-    n: u8,
-    marks: &[u8; 512],
-    by_zero: &[u8; 512],
-    by_one: &[u8; 512],
-    lean: &mut [u8; 512],
+    m: u16,
+    n: u16,
+    marks: &[u8; LINE_ROOM],
+    by_zero: &[u8; LINE_ROOM],
+    by_one: &[u8; LINE_ROOM],
+    lean: &mut [u8; LINE_ROOM],
 ) -> Kinds
-    ensures { λ r. ⌜ LeansAll (conditionIn (now (marks .entry)) (now («by_zero» .entry)) (now («by_one» .entry))) (m + n) r
+    ensures { λ r. ⌜ LeansAll (conditionIn (now (marks .entry)) (now («by_zero» .entry)) (now («by_one» .entry))) (within (m + n)) r
         (now (lean .entry)) (now (lean .exit)) ⌝ }
 {
-    let total = wide(m) + wide(n);
+    let total = wide16(lines_of(m, n));
     let mut cut: u16 = 0;
     let mut torn: u16 = 0;
     let mut l: usize = 0;

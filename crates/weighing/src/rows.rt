@@ -9,16 +9,18 @@ use crate::taking::Taken;
 use crate::taking::take_all;
 use counting::joining::bit_of;
 use counting::joining::either_of;
-use pattern::reading::wide;
+use model::limits::LINE_ROOM;
+use pattern::reading::wide16;
 ghost use mathlib.Core.Bool.{false};
 ghost use mathlib.Core.List.{List};
 ghost use mathlib.Core.Path.{_≡_};
 ghost use Prim.Native.Nat.{ℕ, _+_, _*_, _≤_, _<_};
 ghost use lib.Dec.{eqb, ltb};
 ghost use lib.ListN.{getD, length};
+ghost use Rattle.model.specs.Limits.{lineRoom};
 ghost use Rattle.counting.specs.Tests.{_and_, pick};
 ghost use Rattle.counting.specs.Sums.{count};
-ghost use Rattle.model.specs.Pattern.{patternOf, rowIn, columnIn};
+ghost use Rattle.model.specs.Pattern.{entryBytes, patternOf, rowIn, columnIn};
 ghost use Rattle.weighing.specs.Cells.{markingIn};
 ghost use Rattle.weighing.specs.Taking.{TakesOpen};
 ghost use Rattle.weighing.specs.Rows.{columnHas, columnIs, StretchTo, OpenTo};
@@ -45,8 +47,8 @@ struct Reached {
 }
 
 // Nonzero t is there, and in a row.
-fn in_row(list: &[u8], nonzeros: u16, t: u16, row: u8) -> bool
-    requires { ⌜ 2 * nonzeros ≤ length (now list) ⌝ }
+fn in_row(list: &[u8], nonzeros: u16, t: u16, row: u16) -> bool
+    requires { ⌜ entryBytes * nonzeros ≤ length (now list) ⌝ }
     ensures { λ r. ⌜ r ≡ ltb t nonzeros and eqb (rowIn (now (list .entry)) t) row ⌝ }
 {
     if t < nonzeros {
@@ -57,24 +59,24 @@ fn in_row(list: &[u8], nonzeros: u16, t: u16, row: u8) -> bool
 }
 
 // The line of the column of nonzero t.
-fn column_line(list: &[u8], m: u8, t: u16) -> usize
-    requires { ⌜ 2 * t + 1 < length (now list) ⌝ }
+fn column_line(list: &[u8], m: u16, t: u16) -> usize
+    requires { ⌜ entryBytes * t + 3 < length (now list) ⌝ }
     ensures { λ r. ⌜ r ≡ m + columnIn (now (list .entry)) t ⌝ }
 {
     let column = column_at(list, t);
-    wide(m) + wide(column)
+    wide16(m) + wide16(column)
 }
 
 // A stretch in a row not marked 0 or 1: its columns marked 0 and 1.
 fn open_stretch(
-    m: u8,
+    m: u16,
     nonzeros: u16,
     list: &[u8],
-    marks: &[u8; 512],
-    row: u8,
+    marks: &[u8; LINE_ROOM],
+    row: u16,
     start: u16,
 ) -> Columns
-    requires { ⌜ (2 * nonzeros ≤ length (now list)) × (start ≤ nonzeros) ⌝ }
+    requires { ⌜ (entryBytes * nonzeros ≤ length (now list)) × (start ≤ nonzeros) ⌝ }
     ensures { λ r. ⌜ StretchTo (now (list .entry)) nonzeros row start (r .next)
         × (ltb (r .next) nonzeros and eqb (rowIn (now (list .entry)) (r .next)) row ≡ false)
         × (r .zero + start ≤ r .next) × (r .one + start ≤ r .next)
@@ -98,22 +100,22 @@ fn open_stretch(
 
 // A stretch in a row marked with a part: sets 1 at its columns, and counts those marked with the other part.
 fn marked_stretch(
-    m: u8,
+    m: u16,
     nonzeros: u16,
     list: &[u8],
-    marks: &[u8; 512],
-    row: u8,
+    marks: &[u8; LINE_ROOM],
+    row: u16,
     start: u16,
     other: u8,
-    lines: &mut [u8; 512],
+    lines: &mut [u8; LINE_ROOM],
 ) -> Crossed
-    requires { ⌜ (2 * nonzeros ≤ length (now list)) × (start ≤ nonzeros) ⌝ }
+    requires { ⌜ (entryBytes * nonzeros ≤ length (now list)) × (start ≤ nonzeros) ⌝ }
     ensures { λ r. ⌜ StretchTo (now (list .entry)) nonzeros row start (r .next)
         × (ltb (r .next) nonzeros and eqb (rowIn (now (list .entry)) (r .next)) row ≡ false)
         × (r .others + start ≤ r .next)
         × (r .others + count (columnHas (now (list .entry)) m (markingIn (now (marks .entry))) other) start
         ≡ count (columnHas (now (list .entry)) m (markingIn (now (marks .entry))) other) (r .next))
-        × ((l : ℕ) → l < 512 → getD (now (lines .exit)) l 0
+        × ((l : ℕ) → l < lineRoom → getD (now (lines .exit)) l 0
         ≡ pick (ltb (count (columnIs (now (list .entry)) m l) start) (count (columnIs (now (list .entry)) m l) (r .next))) 1 (getD (now (lines .entry)) l 0)) ⌝ }
 {
     let mut t = start;
@@ -121,7 +123,7 @@ fn marked_stretch(
     while in_row(list, nonzeros, t, row) {
         let column = column_line(list, m, t);
         let mark = line_mark(marks, column);
-        put_at(lines, column, 1);
+        put_at(lines, column % LINE_ROOM, 1);
         others = others + bit_of(mark == other);
         t = t + 1;
     }
@@ -130,17 +132,17 @@ fn marked_stretch(
 
 // What is taken up to the end of the stretch that starts at a nonzero, from what is taken before it.
 fn take_row(
-    m: u8,
+    m: u16,
     nonzeros: u16,
     list: &[u8],
-    marks: &[u8; 512],
-    row: u8,
+    marks: &[u8; LINE_ROOM],
+    row: u16,
     start: u16,
     taken: Taken,
-    by_zero: &mut [u8; 512],
-    by_one: &mut [u8; 512],
+    by_zero: &mut [u8; LINE_ROOM],
+    by_one: &mut [u8; LINE_ROOM],
 ) -> Reached
-    requires { ⌜ (2 * nonzeros ≤ length (now list)) × (start < nonzeros) × (row ≡ rowIn (now list) start)
+    requires { ⌜ (entryBytes * nonzeros ≤ length (now list)) × (start < nonzeros) × (row ≡ rowIn (now list) start)
         × (taken .zero ≤ start) × (taken .one ≤ start) ⌝ }
     ensures { λ r. ⌜ (start < r .next) × (r .next ≤ nonzeros)
         × ((n : ℕ) (zero₀ one₀ : List ℕ) →
@@ -149,7 +151,7 @@ fn take_row(
         OpenTo (patternOf m n nonzeros (now (list .entry))) (markingIn (now (marks .entry))) (r .next) (r .zero) (r .one) (r .both)
         zero₀ one₀ (now («by_zero» .exit)) (now («by_one» .exit))) ⌝ }
 {
-    let line = wide(row);
+    let line = wide16(row);
     let mark = line_mark(marks, line);
     let zero = taken.zero;
     let one = taken.one;
@@ -185,15 +187,15 @@ fn take_row(
 
 // What a marking takes, for a list that holds every nonzero.
 fn take_full(
-    m: u8,
-    n: u8,
+    m: u16,
+    n: u16,
     nonzeros: u16,
     list: &[u8],
-    marks: &[u8; 512],
-    by_zero: &mut [u8; 512],
-    by_one: &mut [u8; 512],
+    marks: &[u8; LINE_ROOM],
+    by_zero: &mut [u8; LINE_ROOM],
+    by_one: &mut [u8; LINE_ROOM],
 ) -> Taken
-    requires { ⌜ 2 * nonzeros ≤ length (now list) ⌝ }
+    requires { ⌜ entryBytes * nonzeros ≤ length (now list) ⌝ }
     ensures { λ r. ⌜ TakesOpen (patternOf m n nonzeros (now (list .entry))) (markingIn (now (marks .entry))) r
         (now («by_zero» .entry)) (now («by_one» .entry)) (now («by_zero» .exit)) (now («by_one» .exit)) ⌝ }
 {
@@ -215,13 +217,13 @@ fn take_full(
 
 // What a marking takes, with 1 set at each line not marked 0 or 1 that has a nonzero taken by 0, and by 1.
 pub fn take_lines(
-    m: u8,
-    n: u8,
+    m: u16,
+    n: u16,
     nonzeros: u16,
     list: &[u8],
-    marks: &[u8; 512],
-    by_zero: &mut [u8; 512],
-    by_one: &mut [u8; 512],
+    marks: &[u8; LINE_ROOM],
+    by_zero: &mut [u8; LINE_ROOM],
+    by_one: &mut [u8; LINE_ROOM],
 ) -> Taken
     ensures { λ r. ⌜ TakesOpen (patternOf m n nonzeros (now (list .entry))) (markingIn (now (marks .entry))) r
         (now («by_zero» .entry)) (now («by_one» .entry)) (now («by_zero» .exit)) (now («by_one» .exit)) ⌝ }

@@ -5,14 +5,16 @@ use counting::joining::bit_of;
 use counting::joining::both_of;
 use counting::joining::either_of;
 use model::Caps;
+use model::limits::LINE_ROOM;
 use pattern::reading::column_of;
 use pattern::reading::row_of;
-use pattern::reading::wide;
+use pattern::reading::wide16;
 ghost use mathlib.Core.Bool.{false};
 ghost use mathlib.Core.Path.{_≡_};
 ghost use Prim.Native.Nat.{ℕ, _+_, _<_};
 ghost use lib.Dec.{eqb};
 ghost use lib.ListN.{getD};
+ghost use Rattle.model.specs.Limits.{lineRoom};
 ghost use Rattle.counting.specs.Tests.{_and_, _or_, pick};
 ghost use Rattle.model.specs.Pattern.{patternOf};
 ghost use Rattle.weighing.specs.Cells.{markingIn};
@@ -26,32 +28,32 @@ pub struct Taken {
 }
 
 // A nonzero is taken by a part.
-pub fn takes_by(marks: &[u8; 512], m: u8, row: u8, column: u8, part: u8) -> bool
+pub fn takes_by(marks: &[u8; LINE_ROOM], m: u16, row: u16, column: u16, part: u8) -> bool
     ensures { λ r. ⌜ r ≡ eqb (markingIn (now (marks .entry)) row) part or eqb (markingIn (now (marks .entry)) (m + column)) part ⌝ }
 {
-    let at_row = line_mark(marks, wide(row));
-    let at_column = line_mark(marks, wide(m) + wide(column));
+    let at_row = line_mark(marks, wide16(row));
+    let at_column = line_mark(marks, wide16(m) + wide16(column));
     either_of(at_row == part, at_column == part)
 }
 
 // Sets 1 at the two lines of a nonzero where a test passes.
-fn touch(lines: &mut [u8; 512], m: u8, row: u8, column: u8, test: bool)
-    ensures { λ _. ⌜ ((l : ℕ) → l < 512 →
+fn touch(lines: &mut [u8; LINE_ROOM], m: u16, row: u16, column: u16, test: bool)
+    ensures { λ _. ⌜ ((l : ℕ) → l < lineRoom →
         getD (now (lines .exit)) l 0 ≡ pick ((eqb l row or eqb l (m + column)) and test) 1 (getD (now (lines .entry)) l 0)) ⌝ }
 {
-    put_if(lines, wide(row), test, 1);
-    put_if(lines, wide(m) + wide(column), test, 1);
+    put_if(lines, wide16(row), test, 1);
+    put_if(lines, wide16(m) + wide16(column), test, 1);
 }
 
 // What a marking takes, with 1 set at each line that has a nonzero taken by 0, and by 1.
 pub(crate) fn take_all(
-    m: u8,
-    n: u8,
+    m: u16,
+    n: u16,
     nonzeros: u16,
     list: &[u8],
-    marks: &[u8; 512],
-    by_zero: &mut [u8; 512],
-    by_one: &mut [u8; 512],
+    marks: &[u8; LINE_ROOM],
+    by_zero: &mut [u8; LINE_ROOM],
+    by_one: &mut [u8; LINE_ROOM],
 ) -> Taken
     ensures { λ r. ⌜ TakesAll (patternOf m n nonzeros (now (list .entry))) (markingIn (now (marks .entry))) r
         (now («by_zero» .entry)) (now («by_one» .entry)) (now («by_zero» .exit)) (now («by_one» .exit)) ⌝ }

@@ -16,6 +16,8 @@ use Rattle.model.specs.declared.Word.the-variants.{ShortBuffer}
 use Rattle.model.specs.declared.Verdict.{Verdict}
 use Rattle.model.specs.declared.Verdict.the-variants.{Accepted, Refused}
 use Rattle.model.specs.Refusal.{given, replyAfter, refuse, _then_, eachVerdict}
+use Rattle.model.specs.Limits.{nonzeroLimit}
+use Rattle.model.specs.Pattern.{entryBytes}
 use Rattle.model.specs.Calls.{sizesVerdict}
 use Rattle.model.proofs.Theorems.Checks.{then-accepted, then-refused, then-first, nonzeros-small}
 use Rattle.writing.specs.declared.Figures.{Figures}
@@ -28,7 +30,7 @@ use Rattle.writing.specs.Writing.{nonzeroVerdict, writeVerdict, lengthAn
 module _ (m n nonzeros : ℕ) (list parts : List ℕ) where
   pub verdict-by :
       (short : Bool) (room each r : Verdict) → sizesVerdict m n nonzeros ≡ Accepted →
-      short ≡ (ltb (length list) (2 * nonzeros) or ltb (length parts) nonzeros) → room ≡ refuse short ShortBuffer 0 →
+      short ≡ (ltb (length list) (entryBytes * nonzeros) or ltb (length parts) nonzeros) → room ≡ refuse short ShortBuffer 0 →
       each ≡ eachVerdict (nonzeroVerdict m n list parts) nonzeros → r ≡ (room then each) → r ≡ writeVerdict m n nonzeros list parts
   unfolding writeVerdict
   verdict-by short room each r h e1 e2 e3 e4 = e4 ∙ rw (e3, e2, e1) (sym (then-accepted _ h))
@@ -38,7 +40,7 @@ module _ (m n nonzeros : ℕ) (list parts : List ℕ) where
   unfolding writeVerdict
   verdict-refused word place h = sym (then-refused _ h)
 
-  pub write-nonzeros : writeVerdict m n nonzeros list parts ≡ Accepted → nonzeros ≤ 2000
+  pub write-nonzeros : writeVerdict m n nonzeros list parts ≡ Accepted → nonzeros ≤ nonzeroLimit
   unfolding writeVerdict
   write-nonzeros h = nonzeros-small m n nonzeros (then-first _ _ h)
 

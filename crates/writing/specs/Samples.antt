@@ -6,10 +6,10 @@ use mathlib.Core.Path.{_≡_, refl}
 use Prim.Native.Nat.{ℕ}
 use lib.ListN.{length, replicate}
 use Rattle.counting.specs.Tests.{_and_, _or_, pick}
-use Rattle.model.specs.declared.Word.the-variants.{BadPart, ShortBuffer, Order}
+use Rattle.model.specs.declared.Word.the-variants.{OffMatrix, BadPart, ShortBuffer, Order, SplitNumber}
 use Rattle.model.specs.Refusal.{given, refusal, refuse, _then_, eachVerdict}
-use Rattle.model.specs.Pattern.{rowIn, columnIn}
-use Rattle.model.specs.Calls.{outside, sizesVerdict, rises, entryVerdict}
+use Rattle.model.specs.Pattern.{lowIn, highIn, numberIn, rowIn, columnIn, listOf}
+use Rattle.model.specs.Calls.{outside, sizesVerdict, rises, splitNumber, offMatrix, entryVerdict}
 use Rattle.pattern.specs.Measures.{partVerdict}
 use Rattle.texts.specs.declared.ReadAnswer.the-variants as read-answer
 use Rattle.texts.specs.Reading.{readCall, readList, readParts}
@@ -22,12 +22,12 @@ use Rattle.writing.specs.Writing.{nonzeroVerdict, writeVerdict, lengthAn
 
 -- to unfold this is to unfold every definition that a writing computes with
 calling : Type 0
-unfolding writeCall writeOut writeVerdict nonzeroVerdict lengthAnswer textOut answerWritten outWritten textOf headText bodyText entriesText entryText sizesText commentText endingText figuresText capsText figureText numberText decimals eachVerdict partVerdict entryVerdict rises rowIn columnIn refuse _then_ sizesVerdict outside _and_ _or_ pick
+unfolding writeCall writeOut writeVerdict nonzeroVerdict lengthAnswer textOut answerWritten outWritten textOf headText bodyText entriesText entryText sizesText commentText endingText figuresText capsText figureText numberText decimals eachVerdict partVerdict entryVerdict splitNumber offMatrix rises lowIn highIn numberIn rowIn columnIn refuse _then_ sizesVerdict outside _and_ _or_ pick
 calling = Unit
 
 -- the 2 by 2 diagonal, with its nonzeros in different parts, and the figures of document 01's sample
 abbrev diagonal : List ℕ
-diagonal = 0 ∷ 0 ∷ 1 ∷ 1 ∷ []
+diagonal = listOf (0 ∷ 0 ∷ 1 ∷ 1 ∷ [])
 
 abbrev apart : List ℕ
 apart = 0 ∷ 1 ∷ []
@@ -57,13 +57,18 @@ back : readCall printed diagonal apart ≡ read-answer.Read 2 2 2 true
 unfolding computing
 back = refl
 
-back-list : readList printed (replicate 4 9) (replicate 2 9) ≡ diagonal
+back-list : readList printed (replicate 8 9) (replicate 2 9) ≡ diagonal
 unfolding computing
 back-list = refl
 
-back-parts : readParts printed (replicate 4 9) (replicate 2 9) ≡ apart
+back-parts : readParts printed (replicate 8 9) (replicate 2 9) ≡ apart
 unfolding computing
 back-parts = refl
+
+-- rows and columns past a byte: (255, 256) and (256, 299), written "256 257 1" and "257 300 2"
+far-written : bodyText 300 300 2 (listOf (255 ∷ 256 ∷ 256 ∷ 299 ∷ [])) apart ≡ 51 ∷ 48 ∷ 48 ∷ 32 ∷ 51 ∷ 48 ∷ 48 ∷ 32 ∷ 50 ∷ 10 ∷ 50 ∷ 53 ∷ 54 ∷ 32 ∷ 50 ∷ 53 ∷ 55 ∷ 32 ∷ 49 ∷ 10 ∷ 50 ∷ 53 ∷ 55 ∷ 32 ∷ 51 ∷ 48 ∷ 48 ∷ 32 ∷ 50 ∷ 10 ∷ []
+unfolding calling
+far-written = refl
 
 -- "none yet" with the caps and rest of 233 nonzeros at 3 percent
 none-yet : noneText 120 120 51 0 0 ≡ 110 ∷ 111 ∷ 110 ∷ 101 ∷ 32 ∷ 121 ∷ 101 ∷ 116 ∷ 32 ∷ 99 ∷ 97 ∷ 112 ∷ 115 ∷ 32 ∷ 49 ∷ 50 ∷ 48 ∷ 32 ∷ 49 ∷ 50 ∷ 48 ∷ 32 ∷ 114 ∷ 101 ∷ 115 ∷ 116 ∷ 32 ∷ 53 ∷ 49 ∷ 32 ∷ 116 ∷ 114 ∷ 105 ∷ 101 ∷ 115 ∷ 32 ∷ 48 ∷ 32 ∷ 102 ∷ 108 ∷ 111 ∷ 111 ∷ 114 ∷ 32 ∷ 48 ∷ 10 ∷ []
@@ -88,18 +93,41 @@ no-room : writeCall 2 2 2 diagonal apart figures (7 ∷ []) ≡ write-answer.Ref
 unfolding calling
 no-room = refl
 
--- 8 of a nonzero comes before 10 of the next
-part-first : writeCall 2 2 2 (0 ∷ 1 ∷ 0 ∷ 0 ∷ []) (2 ∷ 0 ∷ []) figures [] ≡ write-answer.Refused BadPart 0
+-- 17 of a nonzero comes before its 5, 10 and 8: (0, 512) in a 2 by 2 matrix, after (1, 0), with part byte 2
+split-first : writeCall 2 2 2 (listOf (1 ∷ 0 ∷ 0 ∷ 512 ∷ [])) (0 ∷ 2 ∷ []) figures [] ≡ write-answer.Refused SplitNumber 1
+unfolding calling
+split-first = refl
+
+-- a row of 512 is a split number too, and 511 is outside alone, which comes before 8
+split-row : writeCall 2 2 1 (listOf (512 ∷ 0 ∷ [])) (2 ∷ []) figures [] ≡ write-answer.Refused SplitNumber 0
+unfolding calling
+split-row = refl
+
+off-first : writeCall 2 2 1 (listOf (511 ∷ 511 ∷ [])) (2 ∷ []) figures [] ≡ write-answer.Refused OffMatrix 0
+unfolding calling
+off-first = refl
+
+-- 8 of a nonzero comes before 17 and 10 of the next
+part-first : writeCall 2 2 2 (listOf (0 ∷ 1 ∷ 0 ∷ 512 ∷ [])) (2 ∷ 0 ∷ []) figures [] ≡ write-answer.Refused BadPart 0
 unfolding calling
 part-first = refl
 
-unsorted : writeCall 2 2 2 (0 ∷ 1 ∷ 0 ∷ 0 ∷ []) (1 ∷ 2 ∷ []) figures [] ≡ write-answer.Refused Order 1
+part-before-order : writeCall 2 2 2 (listOf (0 ∷ 1 ∷ 0 ∷ 0 ∷ [])) (2 ∷ 0 ∷ []) figures [] ≡ write-answer.Refused BadPart 0
+unfolding calling
+part-before-order = refl
+
+unsorted : writeCall 2 2 2 (listOf (0 ∷ 1 ∷ 0 ∷ 0 ∷ [])) (1 ∷ 2 ∷ []) figures [] ≡ write-answer.Refused Order 1
 unfolding calling
 unsorted = refl
 
-short-parts : writeCall 2 2 2 (5 ∷ 5 ∷ 5 ∷ 5 ∷ []) (1 ∷ []) figures [] ≡ write-answer.Refused ShortBuffer 0
+-- 9 for the parts, and for a list under four bytes an entry, comes before the checks of the nonzeros
+short-parts : writeCall 2 2 2 (listOf (5 ∷ 5 ∷ 5 ∷ 5 ∷ [])) (1 ∷ []) figures [] ≡ write-answer.Refused ShortBuffer 0
 unfolding calling
 short-parts = refl
+
+short-list : writeCall 2 2 2 (replicate 7 5) apart figures [] ≡ write-answer.Refused ShortBuffer 0
+unfolding calling
+short-list = refl
 
 -- what a writing replies in numbers: the text's length
 written-reply : writeReply (write-answer.Written 120) ≡ record { number = 0; place = 0; values = 120 ∷ [] }

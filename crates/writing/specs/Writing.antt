@@ -18,11 +18,11 @@ use Rattle.writing.specs.declared.WriteAnswer.{WriteAnswer}
 use Rattle.writing.specs.declared.WriteAnswer.the-variants as write-answer
 use Rattle.writing.specs.Written.{textOf}
 
--- 5, 10, 8: the checks of a nonzero
+-- 17, 5, 10, 8: the checks of a nonzero
 unfoldable pub nonzeroVerdict : ℕ → ℕ → List ℕ → List ℕ → ℕ → Verdict
 nonzeroVerdict m n list parts t = entryVerdict m n list t then partVerdict parts t
 
--- the writer: 4, 9 for list and parts, then per nonzero 5, 10, 8
+-- the writer: 4, 9 for list and parts, then per nonzero 17, 5, 10, 8
 unfoldable pub writeVerdict : ℕ → ℕ → ℕ → List ℕ → List ℕ → Verdict
 writeVerdict m n nonzeros list parts =
     sizesVerdict m n nonzeros

@@ -4,15 +4,15 @@ use model::Verdict;
 use model::Word;
 use pattern::checks::and_then;
 use pattern::checks::entry_verdict;
+use pattern::checks::refuse_if;
 use pattern::checks::sizes_verdict;
 use pattern::measures::part_verdict;
 use pattern::reading::wide16;
-use scanning::tests::refuse_if;
 ghost use mathlib.Core.Path.{_≡_};
 ghost use Rattle.model.specs.Refusal.{eachVerdict};
 ghost use Rattle.writing.specs.Writing.{nonzeroVerdict, writeVerdict};
 
-// 5, 10, 8: row or column outside; list not strictly rising; a part byte above 1.
+// 17, 5, 10, 8: a split number; row or column outside; list not strictly rising; a part byte above 1.
 fn nonzero_verdict(m: u64, n: u64, list: &[u8], parts: &[u8], t: u16) -> Verdict
     ensures { λ r. ⌜ r ≡ nonzeroVerdict m n (now (list .entry)) (now (parts .entry)) t ⌝ }
 {
@@ -41,7 +41,7 @@ fn nonzeros_verdict(m: u64, n: u64, list: &[u8], parts: &[u8], nonzeros: u16) ->
     Verdict::Accepted
 }
 
-// The checks of the writer but the last: 4, 9 for list and parts, then per nonzero 5, 10, 8.
+// The checks of the writer but the last: 4, 9 for list and parts, then per nonzero 17, 5, 10, 8.
 pub(crate) fn write_verdict(m: u64, n: u64, nonzeros: u64, list: &[u8], parts: &[u8]) -> Verdict
     ensures { λ r. ⌜ r ≡ writeVerdict m n nonzeros (now (list .entry)) (now (parts .entry)) ⌝ }
 {
@@ -49,7 +49,7 @@ pub(crate) fn write_verdict(m: u64, n: u64, nonzeros: u64, list: &[u8], parts: &
     match sizes {
         Verdict::Accepted => {
             let needed = nonzeros as usize;
-            let short = either_of(list.len() < 2 * needed, parts.len() < needed);
+            let short = either_of(list.len() < 4 * needed, parts.len() < needed);
             let room = refuse_if(short, Word::ShortBuffer, 0);
             let each = nonzeros_verdict(m, n, list, parts, nonzeros as u16);
             and_then(room, each)

@@ -9,6 +9,7 @@ use model::Word;
 use pattern::reading::byte_at;
 use pattern::reading::column_of;
 use pattern::reading::long;
+use pattern::reading::long16;
 use pattern::reading::put;
 use pattern::reading::row_of;
 use pattern::reading::wide16;
@@ -129,8 +130,8 @@ fn put_entry(page: &mut [u8], at: usize, list: &[u8], parts: &[u8], t: u16) -> u
     requires { ⌜ at < 2147483648 ⌝ }
     ensures { λ r. ⌜ Puts (now (page .entry)) at (entryText (now (list .entry)) (now (parts .entry)) t) (now (page .exit)) r ⌝ }
 {
-    let row = long(row_of(list, t)) + 1;
-    let column = long(column_of(list, t)) + 1;
+    let row = long16(row_of(list, t)) + 1;
+    let column = long16(column_of(list, t)) + 1;
     let place = wide16(t);
     let part = long(byte_at(parts, place)) + 1;
     put_sizes(page, at, row, column, part)

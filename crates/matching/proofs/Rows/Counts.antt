@@ -17,20 +17,20 @@ use Rattle.counting.proofs.Joined.{no-way, by-test, bit-true, bit-false}
 use Rattle.counting.proofs.Summed.{sum-suc, sum-none, sum-eq, sum-add}
 use Rattle.counting.proofs.Counted.{count-most, count-none}
 use Rattle.model.specs.Pattern.{Pattern, patternOf, rowIn}
-use Rattle.matching.specs.Starts.{rowStart, rowCount, noStarts}
+use Rattle.matching.specs.Starts.{sideRoom, sideEnds, rowStart, rowCount, noStarts}
 
 -- a number for each row, and one more
-pub no-starts-long : length noStarts ≡ 257
+pub no-starts-long : length noStarts ≡ sideEnds
 unfolding noStarts
-no-starts-long = length-replicate {A = ℕ} 257 0
+no-starts-long = length-replicate {A = ℕ} sideEnds 0
 
 -- with no nonzeros counted, each number is 0
 pub counts-none :
-    (list counts : List ℕ) → counts ≡ noStarts → (i : ℕ) → i ≤ 256 → getD counts i 0 ≡ rowCount list 0 i
+    (list counts : List ℕ) → counts ≡ noStarts → (i : ℕ) → i ≤ sideRoom → getD counts i 0 ≡ rowCount list 0 i
 unfolding noStarts rowCount
 counts-none list counts e i h =
     ap (λ (l : List ℕ). getD l i 0) e
-    ∙ getD-replicate {A = ℕ} 257 i 0 0 (omega arith)
+    ∙ getD-replicate {A = ℕ} sideEnds i 0 0 (omega arith)
     ∙ sym (sum-none (λ t. bit (eqb (rowIn list t + 1) i)))
 
 -- one more nonzero counted
@@ -45,36 +45,49 @@ pub counts-most : (list : List ℕ) (t i : ℕ) → rowCount list t i ≤ t
 unfolding rowCount
 counts-most list t i = count-most (λ s. eqb (rowIn list s + 1) i) t
 
--- nonzero t is counted one place above its row
-pub counts-more :
-    (list counts : List ℕ) (t row at : ℕ) →
-    length counts ≡ 257 → row ≡ rowIn list t → at ≡ row → at < 256 →
-    ((i : ℕ) → i ≤ 256 → getD counts i 0 ≡ rowCount list t i) →
-    (i : ℕ) → i ≤ 256 → getD (set counts (at + 1) (getD counts (at + 1) 0 + 1)) i 0 ≡ rowCount list (t + 1) i
-counts-more list counts t row at l e f b h i c =
-    by-test
-    (eqb i (at + 1))
-    (λ s. let q = eqb-true i (at + 1) s in
-    let w : rowIn list t + 1 ≡ i = omega arith in
-    ap (λ (k : ℕ). getD (set counts (at + 1) (getD counts (at + 1) 0 + 1)) k 0) q
-    ∙ getD-set-same counts (at + 1) (getD counts (at + 1) 0 + 1) 0 (omega arith)
-    ∙ omega (
-      arith,
-      ap (λ (k : ℕ). getD counts k 0) q,
-      h i c,
-      count-more list t i,
-      bit-true (eqb (rowIn list t + 1) i) (eq-eqb (rowIn list t + 1) i w),
-    ))
-    (λ s. let d = eqb-false i (at + 1) s in
-    getD-set-other counts (at + 1) i (getD counts (at + 1) 0 + 1) 0 d
-    ∙ omega (
-      arith,
-      h i c,
-      count-more list t i,
-      bit-false
-          (eqb (rowIn list t + 1) i)
-          (ne-eqb (rowIn list t + 1) i (λ q. let w : i ≡ at + 1 = omega arith in d w)),
-    ))
+-- nonzero t, whose row has its number at this place
+module _
+    (list counts : List ℕ)
+    (t at : ℕ)
+    (place : at ≡ rowIn list t + 1)
+    (h : (i : ℕ) → i ≤ sideRoom → getD counts i 0 ≡ rowCount list t i)
+  where
+    -- another row's number stays
+    count-other : (i : ℕ) → i ≤ sideRoom → (i ≡ at → ⊥) → getD counts i 0 ≡ rowCount list (t + 1) i
+    count-other i c d =
+        omega (
+          arith,
+          h i c,
+          count-more list t i,
+          bit-false
+              (eqb (rowIn list t + 1) i)
+              (ne-eqb (rowIn list t + 1) i (λ q. let w : i ≡ at = omega arith in d w)),
+        )
+
+    -- its own is one more
+    pub counts-more :
+        length counts ≡ sideEnds → at < sideEnds →
+        (i : ℕ) → i ≤ sideRoom → getD (set counts at (getD counts at 0 + 1)) i 0 ≡ rowCount list (t + 1) i
+    counts-more l b i c =
+        by-test
+        (eqb i at)
+        (λ s. let q = eqb-true i at s in
+        let w : rowIn list t + 1 ≡ i = omega arith in
+        ap (λ (k : ℕ). getD (set counts at (getD counts at 0 + 1)) k 0) q
+        ∙ getD-set-same counts at (getD counts at 0 + 1) 0 (omega arith)
+        ∙ omega (
+          arith,
+          ap (λ (k : ℕ). getD counts k 0) q,
+          h i c,
+          count-more list t i,
+          bit-true (eqb (rowIn list t + 1) i) (eq-eqb (rowIn list t + 1) i w),
+        ))
+        (λ s. let d = eqb-false i at s in
+        getD-set-other counts at i (getD counts at 0 + 1) 0 d ∙ count-other i c d)
+
+    -- a row past the last has none
+    pub counts-passed : sideEnds ≤ at → (i : ℕ) → i ≤ sideRoom → getD counts i 0 ≡ rowCount list (t + 1) i
+    counts-passed b i c = count-other i c (λ q. no-way (omega arith))
 
 -- the starts of a list's rows, whatever the numbers of rows and columns
 pub start-same :
@@ -151,7 +164,7 @@ starts-most nonzeros list i = start-most (patternOf 0 0 nonzeros list) i
 -- before the first sum only the first row's start is there
 pub starts-begin :
     (nonzeros : ℕ) (list starts : List ℕ) →
-    ((k : ℕ) → k ≤ 256 → getD starts k 0 ≡ rowCount list nonzeros k) →
+    ((k : ℕ) → k ≤ sideRoom → getD starts k 0 ≡ rowCount list nonzeros k) →
     (k : ℕ) → k ≤ 0 → getD starts k 0 ≡ rowStart (patternOf 0 0 nonzeros list) k
 starts-begin nonzeros list starts h k z =
     let q : k ≡ 0 = omega arith in
@@ -165,10 +178,10 @@ module _
     (nonzeros : ℕ)
     (list starts : List ℕ)
     (i : ℕ)
-    (long : length starts ≡ 257)
-    (small : i < 256)
+    (long : length starts ≡ sideEnds)
+    (small : i < sideRoom)
     (done : (k : ℕ) → k ≤ i → getD starts k 0 ≡ rowStart (patternOf 0 0 nonzeros list) k)
-    (left : (k : ℕ) → i < k → k ≤ 256 → getD starts k 0 ≡ rowCount list nonzeros k)
+    (left : (k : ℕ) → i < k → k ≤ sideRoom → getD starts k 0 ≡ rowCount list nonzeros k)
   where
     -- the sum is the start of the next row
     pub sum-is :
@@ -196,7 +209,7 @@ module _
         (eq-or-lt-of-le h)
 
     pub sum-left :
-        (k : ℕ) → i + 1 < k → k ≤ 256 →
+        (k : ℕ) → i + 1 < k → k ≤ sideRoom →
         getD (set starts (i + 1) (getD starts i 0 + getD starts (i + 1) 0)) k 0 ≡ rowCount list nonzeros k
     sum-left k g h =
         getD-set-other starts (i + 1) k (getD starts i 0 + getD starts (i + 1) 0) 0 (λ q. no-way (omega arith))

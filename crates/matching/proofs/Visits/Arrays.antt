@@ -43,7 +43,7 @@ entered-set seen j h =
     (λ e. ap (ltb 0) (getD-set-other seen j c 1 0 (eqb-false c j e))
     ∙ sym (or-passed (ltb 0 (getD seen c 0)) e)))
 
--- a row that is a byte
+-- a row that the arrays have room for
 pub mate-row : (i : ℕ) → i < sideRoom → mateOf (i + 1) ≡ suc i
 unfolding mateOf
 mate-row i h = ap mateOf (add-one i) ∙ ap suc (mod-eq-of-lt h)

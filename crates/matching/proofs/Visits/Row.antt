@@ -5,9 +5,10 @@ use mathlib.Core.List.{List, [], _∷_}
 use mathlib.Core.Path.{_≡_, sym, _∙_, ap}
 use Prim.Native.Nat.{ℕ, suc, _+_, _-_, _≤_, _<_}
 use native.Mathlib.Omega.{arith}
+use lib.Dec.{ltb}
 use lib.ListN.{getD}
-use borrow.Author.Tests.{lt-ltb, ne-eqb}
-use Rattle.counting.proofs.Joined.{no-way, pick-true, and-fails-left, or-fails}
+use borrow.Author.Tests.{ltb-true, ltb-false, lt-ltb, ne-eqb}
+use Rattle.counting.proofs.Joined.{no-way, clash, by-test, pick-true, pick-false, and-left, and-fails-left, and-fails-right, or-fails}
 use Rattle.model.specs.Pattern.{columnIn}
 use Rattle.model.specs.Matching.{Visited, visited, Visit, looked, columnsWhere, through, columnWithin}
 use Rattle.model.specs.Walk.{isEmpty}
@@ -15,6 +16,13 @@ use Rattle.model.proofs.Matching.Columns.{where-take, where-pass, where-none}
 use Rattle.model.proofs.Matching.Visits.{looked-twice, looked-none, through-none, through-found, through-on}
 use Rattle.matching.specs.declared.augmenting.Visit as code
 use Rattle.matching.specs.Augmenting.{Ground, different, atOdds, columnsFrom, columnsIn, enteredIn, matesIn, unseen, ColumnVisits, sideRoom}
+
+-- no column is left past the last nonzero
+pub from-none : (G : Ground) (i end t : ℕ) → end ≤ t → columnsFrom G i (end - t) t ≡ []
+unfolding columnsFrom columnsWhere
+from-none G i end t h =
+    let z : end - t ≡ 0 = omega arith in
+    ap (λ (n : ℕ). columnsFrom G i n t) z
 
 -- the columns of row i are those of its nonzeros from t up to end
 pub row-begins :
@@ -26,12 +34,20 @@ row-begins G i t end b e f =
     ∙ ap (λ (x : ℕ). columnsFrom G i (getD (G .starts) (i + 1) 0 - x) x) (sym e)
     ∙ ap (λ (x : ℕ). columnsFrom G i (x - t) t) (sym f)
 
--- none is left
-pub from-none : (G : Ground) (i end t : ℕ) → end ≤ t → columnsFrom G i (end - t) t ≡ []
-unfolding columnsFrom columnsWhere
-from-none G i end t h =
-    let z : end - t ≡ 0 = omega arith in
-    ap (λ (n : ℕ). columnsFrom G i n t) z
+-- a row past the last has none
+pub row-outside : (G : Ground) (i : ℕ) → ltb i sideRoom ≡ false → columnsIn G i ≡ []
+unfolding columnsIn
+row-outside G i e = pick-false _ _ e
+
+-- and so of any row, where the nonzeros of a row past the last end at 0
+pub any-begins :
+    (G : Ground) (i t end : ℕ) → t ≡ getD (G .starts) i 0 → end ≡ getD (G .starts) (i + 1) 0 →
+    (sideRoom ≤ i → end ≡ 0) → columnsIn G i ≡ columnsFrom G i (end - t) t
+any-begins G i t end e f past =
+    by-test
+    (ltb i sideRoom)
+    (λ b. row-begins G i t end (ltb-true i sideRoom b) e f)
+    (λ b. row-outside G i b ∙ sym (from-none G i end t (omega (arith, past (ltb-false i sideRoom b)))))
 
 -- a row that leans to no part has none
 pub from-passed : (G : Ground) (i n t : ℕ) → 1 < getD (G .lean) i 0 → columnsFrom G i n t ≡ []
@@ -44,16 +60,31 @@ from-passed G i n t h =
     (columnIn (G .list))
     n
     t
-    (λ s a b. or-fails (and-fails-left _ zero) (and-fails-left _ one))
+    (λ s a b. and-fails-right _ (or-fails (and-fails-left _ zero) (and-fails-left _ one)))
 
-pub in-passed :
-    (G : Ground) (k i : ℕ) → k ≡ i → i < sideRoom → 1 < getD (G .lean) k 0 → not (isEmpty (columnsIn G i)) ≡ false
+pub in-passed : (G : Ground) (i : ℕ) → 1 < getD (G .lean) i 0 → not (isEmpty (columnsIn G i)) ≡ false
 unfolding columnsIn isEmpty
-in-passed G k i e b h =
+in-passed G i h =
     ap
     (λ (js : List ℕ). not (isEmpty js))
-    (pick-true _ _ (lt-ltb i sideRoom b)
-    ∙ from-passed G i _ _ (omega (arith, ap (λ (x : ℕ). getD (G .lean) x 0) e)))
+    (by-test
+    (ltb i sideRoom)
+    (λ b. pick-true _ _ b ∙ from-passed G i _ _ h)
+    (λ b. row-outside G i b))
+
+-- a row with a conflict is not past the last
+pub some-inside : (G : Ground) (i : ℕ) → not (isEmpty (columnsIn G i)) ≡ true → i < sideRoom
+unfolding isEmpty
+some-inside G i h =
+    by-test
+    (ltb i sideRoom)
+    (λ b. ltb-true i sideRoom b)
+    (λ b. clash h (ap (λ (js : List ℕ). not (isEmpty js)) (row-outside G i b)))
+
+-- a column at odds with a row is not past the last
+pub odds-inside : (lean : List ℕ) (m i j : ℕ) → atOdds lean m i j ≡ true → j < sideRoom
+unfolding atOdds
+odds-inside lean m i j e = ltb-true j sideRoom (and-left (ltb j sideRoom) _ e)
 
 -- nonzero t of row i, whose column is j
 pub record Nonzero (G : Ground) (i end t j : ℕ) (odds : Bool) : Type 0 where

@@ -11,7 +11,7 @@ use Rattle.counting.specs.Sums.{sum, count, any}
 use Rattle.counting.proofs.Joined.{or-eq}
 use Rattle.counting.proofs.Summed.{sum-eq}
 use Rattle.counting.proofs.Counted.{count-eq, any-eq}
-use Rattle.model.specs.Pattern.{Pattern, entryBytes, rowIn, columnIn, patternOf, lines, rowLine, columnLine, on, lineCount, nonempty, lineTotal}
+use Rattle.model.specs.Pattern.{Pattern, entryBytes, rowPlace, columnPlace, lowIn, highIn, numberIn, rowIn, columnIn, patternOf, lines, rowLine, columnLine, on, lineCount, nonempty, lineTotal}
 use Rattle.model.specs.Marking.{markAt, marking, precedes, place}
 
 -- the same m, n and N, and each nonzero in the same row and column
@@ -38,15 +38,18 @@ pub alike-lists :
     (m n nonzeros : ℕ) (list slice : List ℕ) →
     ((i : ℕ) → i < entryBytes * nonzeros → getD slice i 0 ≡ getD list i 0) →
     Alike (patternOf m n nonzeros slice) (patternOf m n nonzeros list)
-unfolding patternOf rowIn columnIn
+unfolding patternOf lowIn highIn numberIn rowIn columnIn
 alike-lists m n nonzeros list slice h =
     record {
       m-same = refl;
       n-same = refl;
       size-same = refl;
-      row-same = λ t b. h (entryBytes * t) (omega arith);
-      column-same = λ t b. h (entryBytes * t + 1) (omega arith);
+      row-same = λ t b. same-number (rowPlace t) (omega arith);
+      column-same = λ t b. same-number (columnPlace t) (omega arith);
     }
+  where
+    same-number : (at : ℕ) → at + 1 < entryBytes * nonzeros → numberIn slice at ≡ numberIn list at
+    same-number at b = omega (arith, h at (omega arith), h (at + 1) b)
 
 -- counts and tests up to bounds that are equal
 pub sums-agree : (f g : ℕ → ℕ) {a b : ℕ} → a ≡ b → ((t : ℕ) → t < a → f t ≡ g t) → sum f a ≡ sum g b

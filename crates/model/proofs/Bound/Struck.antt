@@ -12,7 +12,7 @@ use Rattle.counting.proofs.Counted.{count-mono, count-most}
 use Rattle.counting.proofs.Grouped.{sum-by-value, count-by-value}
 use Rattle.model.specs.declared.Part.{Part}
 use Rattle.model.specs.declared.Caps.{Caps}
-use Rattle.model.specs.Pattern.{Pattern, Inside, lines, on}
+use Rattle.model.specs.Pattern.{Pattern, Inside, lines, on, lineCount}
 use Rattle.model.specs.Split.{capOf}
 use Rattle.model.specs.Marking.{Marking, taken}
 use Rattle.model.specs.Bound.{leans, untaken, untakenOn, atStake, falling, leaningCounts, struck}
@@ -24,6 +24,11 @@ use Rattle.model.proofs.Bound.Greedy.{firstSum, strikes-least, falling-
 pub untaken-most : (P : Pattern) (μ : Marking) (l : ℕ) → untakenOn P μ l ≤ P .size
 unfolding untakenOn
 untaken-most P μ l = count-most (λ t. on P l t and untaken P μ t) (P .size)
+
+-- and at most all of its own
+pub untaken-line : (P : Pattern) (μ : Marking) (l : ℕ) → untakenOn P μ l ≤ lineCount P l
+unfolding untakenOn lineCount
+untaken-line P μ l = count-mono (λ t. on P l t and untaken P μ t) (on P l) (P .size) (λ t b e. and-left (on P l t) (untaken P μ t) e)
 
 -- lines that lean to p and are cut have no more untaken nonzeros than as many first counts of the lines that lean to p
 paid-most :

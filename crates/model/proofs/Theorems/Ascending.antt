@@ -21,7 +21,7 @@ use Rattle.model.proofs.Matching.Columns.{each, each-first, where-each,
 use Rattle.model.proofs.Theorems.Accepted.{list-accepted}
 
 -- nonzero t comes after nonzero s, by row and then column
-abbrev After : List ℕ → ℕ → ℕ → Type 0
+abbrev pub After : List ℕ → ℕ → ℕ → Type 0
 After list s t =
     (rowIn list s < rowIn list t) ⊎ ((rowIn list s ≡ rowIn list t) × (columnIn list s < columnIn list t))
 
@@ -50,7 +50,7 @@ after-then list r s t a b =
     a
 
 -- over any number of steps
-after-far :
+pub after-far :
     (list : List ℕ) (nonzeros : ℕ) → ((t : ℕ) → t < nonzeros → rises list t ≡ true) →
     (s t : ℕ) → s < t → t < nonzeros → After list s t
 after-far list nonzeros rising s zero h b = no-way (omega arith)

@@ -1,9 +1,9 @@
 -- The cap from a percentage and its rest: they are the one pair with (100 + e) × ceiling(N / 2) = 100 × cap + rest and rest under 100. The
--- cap is at least ceiling(N / 2) and at most 2,000, so an opening with it for both parts is refused for its list alone, never with 11 or 12.
+-- cap is at least ceiling(N / 2) and at most capLimit, so an opening with it for both parts is refused for its list alone, never with 11 or 12.
 -- Assumes nothing.
 use mathlib.Core.List.{List}
 use mathlib.Core.Path.{_≡_, refl, sym, _∙_, ap}
-use Prim.Native.Nat.{ℕ, _+_, _*_, _≤_, _<_}
+use Prim.Native.Nat.{ℕ, _+_, _*_, _≤_, _<_, _/_}
 use native.Mathlib.Nat.{mul-le-mul}
 use native.Mathlib.Omega.{arith}
 use lib.Dec.{ltb}
@@ -49,11 +49,11 @@ cap-from nonzeros percent =
 pub cap-enough : (nonzeros percent : ℕ) → nonzeros ≤ capFromPercent nonzeros percent + capFromPercent nonzeros percent
 cap-enough nonzeros percent = omega (arith, cap-from nonzeros percent, ceiling-half nonzeros .0)
 
--- for N and e in range it is at most 2,000
+-- for N and e in range it is in its own range: nonzeroLimit is even, and at most capLimit
 pub cap-to : (nonzeros percent : ℕ) → nonzeros ≤ nonzeroLimit → percent ≤ percentLimit → capFromPercent nonzeros percent ≤ capLimit
 cap-to nonzeros percent few low =
-    let most : 100 + percent ≤ 200 = omega arith in
-    let half : ceilingHalf nonzeros ≤ 1000 = omega (arith, ceiling-half nonzeros .1) in
+    let most : 100 + percent ≤ 100 + percentLimit = omega arith in
+    let half : ceilingHalf nonzeros ≤ nonzeroLimit / 2 = omega (arith, ceiling-half nonzeros .1) in
     omega (arith, mul-le-mul most half, cut-off nonzeros percent .whole)
 
 -- so an opening with it for both parts makes no other checks than those of its list

@@ -13,13 +13,13 @@ use borrow.Author.Tests.{ltb-false, leb-false, eqb-false, not-false}
 use Rattle.counting.specs.Tests.{_or_}
 use Rattle.counting.proofs.Joined.{no-way, or-fails-left, or-fails-right, never}
 use Rattle.model.specs.declared.Word.{Word}
-use Rattle.model.specs.declared.Word.the-variants.{TooBig, OffMatrix, Order}
+use Rattle.model.specs.declared.Word.the-variants.{TooBig, OffMatrix, Order, SplitNumber}
 use Rattle.model.specs.declared.Verdict.{Verdict}
 use Rattle.model.specs.declared.Verdict.the-variants.{Accepted, Refused}
 use Rattle.model.specs.Limits.{lineLimit, nonzeroLimit}
 use Rattle.model.specs.Refusal.{refuse, _then_, eachVerdict}
 use Rattle.model.specs.Pattern.{rowIn, columnIn}
-use Rattle.model.specs.Calls.{outside, sizesVerdict, rises, entryVerdict}
+use Rattle.model.specs.Calls.{outside, sizesVerdict, rises, splitNumber, offMatrix, entryVerdict}
 
 -- a refusal is no acceptance
 pub refused-not : {A : Type 0} {word : Word} {place : ℕ} → Refused word place ≡ Accepted → A
@@ -145,11 +145,15 @@ module _ (m n nonzeros : ℕ) (h : sizesVerdict m n nonzeros ≡ Accepted) where
       nonzeros
       (or-fails-right (outside lineLimit m or outside lineLimit n or ltb nonzeroLimit nonzeros) _ all-fail)
 
--- a nonzero that is accepted: checks 5 and 10
+-- a nonzero that is accepted: checks 17, 5 and 10
 module _ (m n : ℕ) (list : List ℕ) (t : ℕ) (h : entryVerdict m n list t ≡ Accepted) where
-  on-matrix : leb m (rowIn list t) or leb n (columnIn list t) ≡ false
+  before-order : refuse (splitNumber list t) SplitNumber t then refuse (offMatrix m n list t) OffMatrix t ≡ Accepted
   unfolding entryVerdict
-  on-matrix = refuse-not _ OffMatrix t (then-first _ (refuse (not (rises list t)) Order t) h)
+  before-order = then-first _ (refuse (not (rises list t)) Order t) h
+
+  on-matrix : leb m (rowIn list t) or leb n (columnIn list t) ≡ false
+  unfolding offMatrix
+  on-matrix = refuse-not _ OffMatrix t (then-second (refuse (splitNumber list t) SplitNumber t) _ before-order)
 
   pub entry-row : rowIn list t < m
   entry-row = leb-false m (rowIn list t) (or-fails-left _ (leb n (columnIn list t)) on-matrix)
@@ -162,4 +166,4 @@ module _ (m n : ℕ) (list : List ℕ) (t : ℕ) (h : entryVerdict m n list t �
   entry-rises =
       not-false
       (rises list t)
-      (refuse-not _ Order t (then-second (refuse (leb m (rowIn list t) or leb n (columnIn list t)) OffMatrix t) _ h))
+      (refuse-not _ Order t (then-second (refuse (splitNumber list t) SplitNumber t then refuse (offMatrix m n list t) OffMatrix t) _ h))

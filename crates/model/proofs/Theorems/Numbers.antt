@@ -3,7 +3,7 @@
 use Prim.Native.Nat.{_≤_, _<_}
 use native.Mathlib.Omega.{arith}
 use Rattle.model.specs.declared.Word.{Word}
-use Rattle.model.specs.declared.Word.the-variants.{Banner, SizeLine, EntryForm, TooBig, OffMatrix, Repeated, Count, BadPart, ShortBuffer, Order, Cap, NoSplit, Budget, State, NotSquare, AboveDiagonal}
+use Rattle.model.specs.declared.Word.the-variants.{Banner, SizeLine, EntryForm, TooBig, OffMatrix, Repeated, Count, BadPart, ShortBuffer, Order, Cap, NoSplit, Budget, State, NotSquare, AboveDiagonal, SplitNumber}
 use Rattle.model.specs.Refusal.{refusalNumber}
 
 pub number-range : (word : Word) → (1 ≤ refusalNumber word) × (refusalNumber word < 255)
@@ -23,3 +23,4 @@ number-range Budget = (omega arith, omega arith)
 number-range State = (omega arith, omega arith)
 number-range NotSquare = (omega arith, omega arith)
 number-range AboveDiagonal = (omega arith, omega arith)
+number-range SplitNumber = (omega arith, omega arith)

@@ -9,7 +9,7 @@ use borrow.Author.Tests.{eqb-false}
 use Rattle.counting.specs.Tests.{_or_, pick}
 use Rattle.counting.proofs.Joined.{never, clash, or-fails-left, or-fails-right}
 use Rattle.model.specs.declared.Word.{Word}
-use Rattle.model.specs.declared.Word.the-variants.{TooBig, OffMatrix, ShortBuffer, Order}
+use Rattle.model.specs.declared.Word.the-variants.{TooBig, OffMatrix, ShortBuffer, Order, SplitNumber}
 use Rattle.model.specs.declared.Verdict.{Verdict}
 use Rattle.model.specs.declared.Verdict.the-variants.{Accepted, Refused}
 use Rattle.model.specs.Refusal.{refusalNumber, refuse, _then_, eachVerdict}
@@ -75,7 +75,8 @@ cap-words number h =
 -- the checks of a list refuse nothing for a cap
 entry-spares : (m n : ℕ) (list : List ℕ) (t : ℕ) → Spares wordForCap (entryVerdict m n list t)
 unfolding entryVerdict forCap _or_
-entry-spares m n list t = refuse-spares _ OffMatrix _ refl also refuse-spares _ Order _ refl
+entry-spares m n list t =
+    refuse-spares _ SplitNumber _ refl also refuse-spares _ OffMatrix _ refl also refuse-spares _ Order _ refl
 
 pub sizes-spare : (m n nonzeros : ℕ) → Spares wordForCap (sizesVerdict m n nonzeros)
 unfolding sizesVerdict forCap _or_

@@ -54,7 +54,10 @@ no-search-requires : tie.Need-no-search-requires
 no-search-requires c κs = search needs
 
 returns : tie.Need-returns
-returns c = open-told _ _ _ _ _ (open-answer _ _ _ _ _ _ _ (accepted (c .before .before .before)) (c .before .line-total .ensures) (c .fresh-search .ensures))
+returns c =
+    let list = fine (c .before .before .before) in
+    let k = c .before .line-total .ensures (omega (arith, list .rows-to, list .columns-to)) in
+    open-told _ _ _ _ _ (open-answer _ _ _ _ _ _ _ (accepted (c .before .before .before)) k (c .fresh-search .ensures))
 
 returns-2 : tie.Need-returns-2
 returns-2 c = open-told _ _ _ _ _ (open-refused _ _ _ _ _ _ _ _ (sym (c .before .before .before .before .open-verdict .ensures .0) ∙ c .before .before .verdict .given .1) (c .no-search .ensures))

@@ -7,6 +7,10 @@ use model::RunAnswer;
 use model::Search;
 use model::Verdict;
 use model::Word;
+use model::limits::BUDGET_LIMIT;
+use model::limits::LINE_ROOM;
+use model::limits::SIDE_ENDS;
+use model::limits::TRIES_LIMIT;
 use pattern::checks::list_verdict;
 use state::checking::state_fine;
 use state::holding::normal;
@@ -38,12 +42,12 @@ fn goes_on(complete: bool, made: u64, budget: u64) -> bool
 // So many tries, or fewer only because the search became complete.
 fn run_from(
     search: Search,
-    m: u8,
-    n: u8,
+    m: u16,
+    n: u16,
     nonzeros: u16,
     list: &[u8],
-    places: &[u16; 512],
-    starts: &[u16; 257],
+    places: &[u16; LINE_ROOM],
+    starts: &[u16; SIDE_ENDS],
     k: u16,
     budget: u64,
 ) -> Search
@@ -64,13 +68,13 @@ fn run_from(
 fn budget_verdict(tries: u64, budget: u64) -> Verdict
     ensures { λ r. ⌜ r ≡ budgetBy tries budget ⌝ }
 {
-    if 1_000_000 < budget {
+    if BUDGET_LIMIT < budget {
         return Verdict::Refused(Word::Budget, 0);
     }
-    if 10_000_000_000_000 < tries {
+    if TRIES_LIMIT < tries {
         return Verdict::Refused(Word::Budget, 0);
     }
-    if 10_000_000_000_000 < tries + budget {
+    if TRIES_LIMIT < tries + budget {
         return Verdict::Refused(Word::Budget, 0);
     }
     Verdict::Accepted
@@ -89,12 +93,12 @@ fn ended_as(complete: bool, looks: u64) -> RunAnswer
 // A run of a state that is not refused.
 fn run_fine(
     search: Search,
-    rows: u8,
-    columns: u8,
+    rows: u16,
+    columns: u16,
     size: u16,
     list: &[u8],
-    places: &[u16; 512],
-    starts: &[u16; 257],
+    places: &[u16; LINE_ROOM],
+    starts: &[u16; SIDE_ENDS],
     k: u16,
     budget: u64,
 ) -> Ran
@@ -124,8 +128,8 @@ fn run_listed(search: Search, m: u64, n: u64, nonzeros: u64, list: &[u8], budget
     requires { ⌜ listVerdict m n nonzeros (now list) ≡ Accepted ⌝ }
     ensures { λ a. ⌜ a ≡ runCall search m n nonzeros (now (list .entry)) budget ⌝ }
 {
-    let rows = m as u8;
-    let columns = n as u8;
+    let rows = m as u16;
+    let columns = n as u16;
     let size = nonzeros as u16;
     let places = places(rows, columns, size, list);
     let starts = row_starts(list, size);

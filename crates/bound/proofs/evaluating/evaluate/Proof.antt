@@ -1,12 +1,11 @@
 -- `bound::evaluating::evaluate` meets its contract.
 -- Assumes nothing.
 use borrow.Author.Needs.{needs}
-use native.Mathlib.Omega.{arith}
 use Rattle.model.specs.Pattern.{patternOf}
 use Rattle.model.specs.Marking.{marking}
 use Rattle.weighing.specs.Cells.{markingIn}
 use Rattle.bound.proofs.Same.{evaluates-same}
-use Rattle.bound.proofs.Evaluations.{by-line}
+use Rattle.bound.proofs.Evaluations.{listed-few, by-line}
 use Rattle.bound.proofs.evaluating.evaluate.Statement.{statement}
 use Rattle.bound.proofs.evaluating.evaluate.Tie as tie
 
@@ -23,8 +22,7 @@ returns : tie.Need-returns
 returns c = λ k placed τ short em el.
     let f = c .before .before in
     let total = f .before .lines-of in
-    let s = f .before .before .before in
-    let a = s .args in
+    let a = f .before .before .before .args in
     let entries = f .marks-by-line .result in
     evaluates-same
     (patternOf (a .m) (a .n) (a .nonzeros) (a .list .now))
@@ -42,7 +40,7 @@ returns c = λ k placed τ short em el.
     (a .len)
     (total .result)
     (total .ensures)
-    (omega (arith, total .ensures, s .fits))
+    (listed-few k)
     (f .marks-by-line .ensures)
     placed
     τ

@@ -1,11 +1,9 @@
 -- `bound::evaluating::evaluate_valid` meets its contract.
 -- Assumes nothing.
 use borrow.Author.Needs.{needs}
-use Prim.Native.Nat.{_+_, _<_}
-use native.Mathlib.Omega.{arith}
 use Rattle.model.specs.Pattern.{patternOf}
 use Rattle.weighing.specs.Cells.{markingIn}
-use Rattle.bound.proofs.Evaluations.{leans-at, parts-are}
+use Rattle.bound.proofs.Evaluations.{listed-few, listed-roomy, leans-at, parts-are}
 use Rattle.bound.proofs.evaluating.evaluate_valid.Statement.{statement}
 use Rattle.bound.proofs.evaluating.evaluate_valid.Tie as tie
 
@@ -29,11 +27,10 @@ joined-requires c κs = search needs
 
 returns : tie.Need-returns
 returns c = λ k t v.
-    let s = c .before .before .before .before .before .before .before .before .before in
-    let a = s .args in
-    let few : a .m + a .n < 512 = omega (arith, s .fits) in
+    let a = c .before .before .before .before .before .before .before .before .before .args in
+    let few = listed-few k in
     let leaning = c .before .before .before .before .before .lean-all .ensures in
-    let right = leans-at (a .m) (a .n) (a .nonzeros) (a .list .now) (a .marks .now) few t leaning in
+    let right = leans-at (a .m) (a .n) (a .nonzeros) (a .list .now) (a .marks .now) few (listed-roomy k) t leaning in
     c .joined .ensures
     (patternOf (a .m) (a .n) (a .nonzeros) (a .list .now))
     (a .caps)
@@ -45,6 +42,7 @@ returns c = λ k t v.
     (a .list .now)
     (a .marks .now)
     few
+    (listed-roomy k)
     t
     leaning
     (a .caps)

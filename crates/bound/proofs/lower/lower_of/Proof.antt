@@ -4,6 +4,8 @@ use borrow.Author.Needs.{needs}
 use mathlib.Core.Path.{refl}
 use Prim.Native.Nat.{_+_}
 use native.Mathlib.Omega.{arith}
+use Rattle.pattern.specs.Room.{within}
+use Rattle.pattern.proofs.Within.{within-most}
 use Rattle.weighing.specs.Cells.{markingIn}
 use Rattle.weighing.proofs.Struck.{struck-most}
 use Rattle.bound.proofs.Lowers.{lowered}
@@ -27,17 +29,16 @@ matched-of-requires c κs = search needs
 
 add-t22 : tie.Need-add-t22
 add-t22 c =
-    let s = c .before .before .before .before .before .before .before .before .before in
-    let a = s .args in
+    let a = c .before .before .before .before .before .before .before .before .before .args in
     let w = c .before .before .before .before .before .weigh-lines in
     let weights = w .last .1 .1 .1 .1 .1 .1 .0 in
     omega (
       arith,
-      s .fits,
+      within-most (a .m + a .n),
       c .before .before .before .strike .ensures,
       c .before .strike2 .ensures,
-      struck-most (a .lean .now) weights 0 (a .m + a .n) (w .result .zero) (a .zero-room),
-      struck-most (a .lean .now) weights 1 (a .m + a .n) (w .result .one) (a .one-room),
+      struck-most (a .lean .now) weights 0 (within (a .m + a .n)) (w .result .zero) (a .zero-room),
+      struck-most (a .lean .now) weights 1 (within (a .m + a .n)) (w .result .one) (a .one-room),
     )
 
 returns : tie.Need-returns

@@ -6,6 +6,7 @@ use mathlib.Core.Path.{_≡_, refl, sym, _∙_, ap}
 use Prim.Native.Nat.{ℕ, _≤_}
 use native.Mathlib.Omega.{arith}
 use lib.ListN.{length}
+use Rattle.trail.specs.Trail.{markRoom}
 use Rattle.trail.specs.declared.Trail.{Trail}
 use Rattle.trail.proofs.Methods.{drops}
 use Rattle.model.specs.Pattern.{patternOf}
@@ -21,7 +22,7 @@ use Rattle.flooring.proofs.least.least_open.Tie as tie
 abbrev Inv-loop : tie.InvT-loop
 Inv-loop m n nonzeros list caps places starts least s₀ so-far₀ s so-far =
     Listed m n nonzeros list starts → Placed (patternOf m n nonzeros list) places →
-    (τ : List ℕ) → length τ ≤ 240 → s₀ ≡ trailOf τ →
+    (τ : List ℕ) → length τ ≤ markRoom → s₀ ≡ trailOf τ →
     Left (rulesOf (patternOf m n nonzeros list) caps) (unequal caps) (leastBound (rulesOf (patternOf m n nonzeros list) caps) so-far₀ (beginningsLater (unequal caps) τ)) s so-far
 
 abbrev μ-loop : tie.MeasureT-loop

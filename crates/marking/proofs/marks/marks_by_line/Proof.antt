@@ -9,20 +9,22 @@ use native.Mathlib.Omega.{arith}
 use lib.Dec.{ltb}
 use lib.ListN.{length, getD, set, length-set}
 use Rattle.counting.specs.Tests.{pick}
+use Rattle.model.specs.Limits.{lineRoom}
 use Rattle.model.specs.Marking.{unmarked}
-use Rattle.marking.specs.Order.{within}
+use Rattle.pattern.specs.Room.{within}
+use Rattle.pattern.proofs.Within.{within-most, within-test}
 use Rattle.marking.specs.Marks.{markBy, markFor}
 use Rattle.marking.proofs.Orders.{count-in}
 use Rattle.marking.proofs.Marked.{unmarked-length, unmarked-at}
-use Rattle.marking.proofs.Filled.{within-most, within-test, fill-none, fill-more}
+use Rattle.marking.proofs.Filled.{fill-none, fill-more}
 use Rattle.marking.proofs.marks.marks_by_line.Statement.{statement}
 use Rattle.marking.proofs.marks.marks_by_line.Tie as tie
 
 abbrev Inv-loop : tie.InvT-loop
 Inv-loop lines places marks len entries₀ end l₀ entries l =
     (l ≤ end)
-    × (length entries ≡ 512)
-    × ((j : ℕ) → j < 512 → getD entries j 0 ≡ pick (ltb j l) (markBy marks len (getD places j 0)) unmarked)
+    × (length entries ≡ lineRoom)
+    × ((j : ℕ) → j < lineRoom → getD entries j 0 ≡ pick (ltb j l) (markBy marks len (getD places j 0)) unmarked)
 
 abbrev μ-loop : tie.MeasureT-loop
 μ-loop lines places marks len entries₀ end l₀ entries l = end - l
@@ -30,13 +32,16 @@ abbrev μ-loop : tie.MeasureT-loop
 unmarked-lines-requires : tie.Need-unmarked-lines-requires Inv-loop μ-loop
 unmarked-lines-requires c κs = search needs
 
+wide16-requires : tie.Need-wide16-requires Inv-loop μ-loop
+wide16-requires c κs = search needs
+
 lines-within-requires : tie.Need-lines-within-requires Inv-loop μ-loop
 lines-within-requires c κs = search needs
 
 loop-holds : tie.Need-loop-holds Inv-loop μ-loop
 loop-holds c =
-    let a = c .before .before .args in
-    let e = c .before .unmarked-lines .ensures in (
+    let a = c .before .before .before .args in
+    let e = c .before .before .unmarked-lines .ensures in (
       omega arith,
       ap length e ∙ unmarked-length,
       λ j b. ap (λ (xs : List ℕ). getD xs j 0) e
@@ -44,8 +49,8 @@ loop-holds c =
           ∙ sym (fill-none (λ i. markBy (a .marks .now) (a .len) (getD (a .places .now) i 0)) (λ _. unmarked) j),
     )
 
-wide16-requires : tie.Need-wide16-requires Inv-loop μ-loop
-wide16-requires c κs = search needs
+wide16-requires-2 : tie.Need-wide16-requires-2 Inv-loop μ-loop
+wide16-requires-2 c κs = search needs
 
 count-at-requires : tie.Need-count-at-requires Inv-loop μ-loop
 count-at-requires c κs = search needs
@@ -58,9 +63,9 @@ array-write-by-line c =
     let w = c .before .before .before .before .before in
     omega (
       arith,
-      within-most (w .before .before .args .lines),
-      w .lines-within .ensures,
-      c .before .before .wide16 .ensures .0,
+      within-most (w .before .before .before .args .lines),
+      w .lines-within .ensures ∙ ap within (w .before .wide16 .ensures .0),
+      c .before .before .wide162 .ensures .0,
     )
 
 add-l : tie.Need-add-l Inv-loop μ-loop
@@ -73,15 +78,15 @@ loop-again : tie.Need-loop-again Inv-loop μ-loop
 loop-again c =
     let h = c .before .before .before .before in
     let w = h .before in
-    let a = w .before .before .args in
-    let at = c .before .before .wide16 .ensures .0 in
-    let small : h .loop .l < 512 = omega (arith, within-most (a .lines), w .lines-within .ensures) in
+    let a = w .before .before .before .args in
+    let at = c .before .before .wide162 .ensures .0 in
+    let small : h .loop .l < lineRoom = omega (arith, within-most (a .lines), w .lines-within .ensures ∙ ap within (w .before .wide16 .ensures .0)) in
     let inside : h .loop .l < length (h .loop .by-line) = omega (arith, h .loop .inv .1) in
     let mark : c .mark-of .result ≡ markBy (a .marks .now) (a .len) (getD (a .places .now) (h .loop .l) 0) =
     c .mark-of .ensures
     ∙ ap (markBy (a .marks .now) (a .len)) (c .before .count-at .ensures ∙ count-in (a .places .now) (h .loop .l) small) in (
       omega arith,
-      length-set (h .loop .by-line) (c .before .before .wide16 .result) (c .mark-of .result) ∙ h .loop .inv .1,
+      length-set (h .loop .by-line) (c .before .before .wide162 .result) (c .mark-of .result) ∙ h .loop .inv .1,
       λ j b. ap (λ (i : ℕ). getD (set (h .loop .by-line) i (c .mark-of .result)) j 0) at
           ∙ fill-more
           (λ i. markBy (a .marks .now) (a .len) (getD (a .places .now) i 0))
@@ -101,8 +106,8 @@ unfolding markFor
 returns c =
     let h = c .before in
     let w = h .before in
-    let a = w .before .before .args in
-    let e : h .loop .l ≡ within (a .lines) = omega (arith, w .lines-within .ensures) in (
+    let a = w .before .before .before .args in
+    let e : h .loop .l ≡ within (a .lines) = omega (arith, w .lines-within .ensures ∙ ap within (w .before .wide16 .ensures .0)) in (
       h .loop .inv .1,
       λ l b. h .loop .inv .2 l b
           ∙ ap
@@ -117,9 +122,10 @@ marks-by-line-spec =
     Inv-loop
     μ-loop
     unmarked-lines-requires
+    wide16-requires
     lines-within-requires
     loop-holds
-    wide16-requires
+    wide16-requires-2
     count-at-requires
     mark-of-requires
     array-write-by-line

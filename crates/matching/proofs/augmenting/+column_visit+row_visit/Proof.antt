@@ -3,14 +3,14 @@
 -- Assumes nothing.
 use borrow.Author.Needs.{needs}
 use Prim.Native.Nat.{ℕ, _+_, _-_, _*_, _≤_, _<_}
-use mathlib.Core.Path.{_≡_, _∙_, ap}
+use mathlib.Core.Path.{_≡_, sym, _∙_, ap}
 use mathlib.Core.Logic.{⊎-elim}
 use native.Mathlib.Omega.{arith}
 use lib.ListN.{length, set, length-set}
 use Rattle.matching.specs.Augmenting.{ground, unseen, rowRoom, sideRoom}
 use Rattle.matching.proofs.Visits.Arrays.{unseen-most}
 use Rattle.matching.proofs.Visits.Column.{ColumnAt, enter-fewer, at-entered, at-free, at-found, at-not}
-use Rattle.matching.proofs.Visits.Row.{Rest, Turn, Nonzero, row-begins, from-none, from-pass, from-take, rest-begins, rest-ends, rest-skips, rest-found, rest-goes}
+use Rattle.matching.proofs.Visits.Row.{Rest, Turn, Nonzero, row-begins, odds-inside, from-none, from-pass, from-take, rest-begins, rest-ends, rest-skips, rest-found, rest-goes}
 use borrow.Fn.Kinds.{In}
 use borrow.Fn.PlainCycle.{Measures, is, falls, and}
 use Rattle.matching.proofs.augmenting.column_visit.Reads as column-visit
@@ -23,7 +23,7 @@ use Rattle.matching.proofs.augmenting.at_odds.Reads as at-odds-reads
 use Rattle.matching.proofs.augmenting.end_of.Reads as end-of-reads
 use Rattle.matching.proofs.augmenting.first_of.Reads as first-of-reads
 use Rattle.pattern.proofs.reading.column_of.Reads as column-of-reads
-use Rattle.pattern.proofs.reading.wide.Reads as wide-reads
+use Rattle.pattern.proofs.reading.wide16.Reads as wide16-reads
 use Rattle.matching.proofs.augmenting.+column_visit+row_visit.{statement}
 use Rattle.matching.proofs.augmenting.+column_visit+row_visit.Tie.{close}
 
@@ -54,7 +54,7 @@ row-visit-below t =
 
 -- what the functions that a visit calls promise, the other visit for a lesser measure
 abbrev column-claims : ℕ → column-visit-lts.Claims
-column-claims t = (wide-reads.Asked, wide-reads.Learnt, row-visit-below t, row-visit.Post)
+column-claims t = (wide16-reads.Asked, wide16-reads.Learnt, row-visit-below t, row-visit.Post)
 
 abbrev row-claims : ℕ → row-visit-lts.Claims
 row-claims t = (
@@ -72,21 +72,21 @@ row-claims t = (
 
 -- what a visit of a column knows once its number is read
 column-at :
-    (t : ℕ) (c : column-visit-lts.After-wide (column-claims t) (column-visit-at t) column-visit.Post) →
+    (t : ℕ) (c : column-visit-lts.After-wide16 (column-claims t) (column-visit-at t) column-visit.Post) →
     let a = c .before .before .args in
-    ColumnAt (ground (a .lean .now) (a .m) (a .list .now) (a .starts .now)) (c .wide .result) (a .j) (a .i) (a .seen .now) (a .mate .now)
+    ColumnAt (ground (a .lean .now) (a .m) (a .list .now) (a .starts .now)) (c .wide16 .result) (a .j) (a .i) (a .seen .now) (a .mate .now)
 column-at t c =
     let s = c .before .before in
     record {
-      same = c .wide .ensures .0;
-      seen-long = s .pre .1 .0;
-      mate-long = s .pre .1 .1;
-      column-in = c .wide .ensures .1;
-      row-in = omega (arith, s .fits);
+      same = c .wide16 .ensures .0;
+      seen-long = s .pre .1 .2;
+      mate-long = s .pre .1 .3;
+      column-in = omega (arith, c .wide16 .ensures .0, s .pre .1 .0);
+      row-in = s .pre .1 .1;
     }
 
-column-visit-wide-requires : (t : ℕ) → column-visit-lts.Need-wide-requires (column-claims t) (column-visit-at t) column-visit.Post
-column-visit-wide-requires t c κs = search needs
+column-visit-wide16-requires : (t : ℕ) → column-visit-lts.Need-wide16-requires (column-claims t) (column-visit-at t) column-visit.Post
+column-visit-wide16-requires t c κs = search needs
 
 column-visit-element-copy-out-if1 : (t : ℕ) → column-visit-lts.Need-element-copy-out-if1 (column-claims t) (column-visit-at t) column-visit.Post
 column-visit-element-copy-out-if1 t c = search needs
@@ -128,26 +128,29 @@ column-visit-sub-r t c = search needs
 column-visit-cast-r : (t : ℕ) → column-visit-lts.Need-cast-r (column-claims t) (column-visit-at t) column-visit.Post
 column-visit-cast-r t c = search needs
 
+column-visit-rem-r : (t : ℕ) → column-visit-lts.Need-rem-r (column-claims t) (column-visit-at t) column-visit.Post
+column-visit-rem-r t c = search needs
+
 column-visit-row-visit-requires : (t : ℕ) → column-visit-lts.Need-row-visit-requires (column-claims t) (column-visit-at t) column-visit.Post
 column-visit-row-visit-requires t c κs =
     let s = c .before .before .before .before .before .before .before .before in
     let at = column-at t (c .before .before .before .before .before .before) in
     let fewer = enter-fewer at (c .before .before .before .before .if1 .left) in
-    (omega (arith, s .pre .0, fewer), (length-set (s .args .seen .now) _ 1 ∙ s .pre .1 .0, s .pre .1 .1))
+    (omega (arith, s .pre .0, fewer), (omega arith, length-set (s .args .seen .now) _ 1 ∙ s .pre .1 .2, s .pre .1 .3))
 
 column-visit-add-looks : (t : ℕ) → column-visit-lts.Need-add-looks (column-claims t) (column-visit-at t) column-visit.Post
 column-visit-add-looks t c =
     let v = c .before .row-visit in
     let s = c .before .before .before .before .before .before .before .before .before .before in
     let a = s .args in
-    let w = c .before .before .before .before .before .before .before .before .wide in
+    let w = c .before .before .before .before .before .before .before .before .wide16 in
     record {
       fits = omega (
         arith,
         v .ensures .paid,
         unseen-most (set (a .seen .now) (w .result) 1),
         length-set (a .seen .now) (w .result) 1,
-        s .pre .1 .0,
+        s .pre .1 .2,
       );
     }
 
@@ -230,8 +233,8 @@ row-visit-loop-holds t c =
     let G = ground (a .lean .now) (a .m) (a .list .now) (a .starts .now) in
     let first = c .before .first-of in
     let last = c .end-of in (
-      s .pre .1 .0,
       s .pre .1 .1,
+      s .pre .1 .2,
       omega arith,
       omega arith,
       rest-begins
@@ -241,7 +244,7 @@ row-visit-loop-holds t c =
           (first .result)
           (a .seen .now)
           (a .mate .now)
-          (row-begins G (a .i) (first .result) (last .result) (omega (arith, s .fits)) (first .ensures) (last .ensures)),
+          (row-begins G (a .i) (first .result) (last .result) (s .pre .1 .0) (first .ensures) (last .ensures .0)),
     )
 
 row-visit-column-of-requires : (t : ℕ) → row-visit-lts.Need-column-of-requires (row-claims t) (row-visit-at t) row-visit.Post row-visit-Inv-loop row-visit-μ-loop
@@ -255,7 +258,12 @@ row-visit-column-visit-requires t c κs =
     let s = c .before .before .before .before .before .before .before .before .before .before in
     let a = s .args in
     let l = c .before .before .before .before .before .before .loop in
-    (omega (arith, s .pre .0, l .inv .2, l .inv .3), (l .inv .0, l .inv .1))
+    let k = c .before .before .before .before .column-of in
+    let o = c .before .before .before .at-odds in
+    let odds = sym (o .ensures) ∙ c .before .before .if1 .taken in (
+      omega (arith, s .pre .0, l .inv .2, l .inv .3),
+      (odds-inside (a .lean .now) (a .m) (a .i) (k .result) odds, s .pre .1 .0, l .inv .0, l .inv .1),
+    )
 
 row-visit-add-looks : (t : ℕ) → row-visit-lts.Need-add-looks (row-claims t) (row-visit-at t) row-visit.Post row-visit-Inv-loop row-visit-μ-loop
 row-visit-add-looks t c =
@@ -263,7 +271,7 @@ row-visit-add-looks t c =
     let l = c .before .before .before .before .before .before .before .before .loop in
     let v = c .before .column-visit in
     record {
-      fits = omega (arith, v .ensures .paid, l .inv .2, l .inv .3, unseen-most (s .args .seen .now), s .pre .1 .0);
+      fits = omega (arith, v .ensures .paid, l .inv .2, l .inv .3, unseen-most (s .args .seen .now), s .pre .1 .1);
     }
 
 row-visit-returns : (t : ℕ) → row-visit-lts.Need-returns (row-claims t) (row-visit-at t) row-visit.Post row-visit-Inv-loop row-visit-μ-loop
@@ -362,7 +370,7 @@ pub +column-visit+row-visit-spec : {M : Type 1} → statement M
 +column-visit+row-visit-spec = close μ-column-visit μ-row-visit (λ t. column-visit-lts.spec (column-claims t)
     (column-visit-at t)
     column-visit.Post
-    (column-visit-wide-requires t)
+    (column-visit-wide16-requires t)
     (column-visit-element-copy-out-if1 t)
     (column-visit-returns t)
     (column-visit-element-write-seen t)
@@ -374,6 +382,7 @@ pub +column-visit+row-visit-spec : {M : Type 1} → statement M
     (column-visit-returns-2 t)
     (column-visit-sub-r t)
     (column-visit-cast-r t)
+    (column-visit-rem-r t)
     (column-visit-row-visit-requires t)
     (column-visit-add-looks t)
     (column-visit-add-mate-2 t)

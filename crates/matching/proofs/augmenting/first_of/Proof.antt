@@ -4,17 +4,14 @@ use borrow.Author.Needs.{needs}
 use Rattle.matching.proofs.augmenting.first_of.Statement.{statement}
 use Rattle.matching.proofs.augmenting.first_of.Tie as tie
 
-wide-requires : tie.Need-wide-requires
-wide-requires c κs = search needs
+wide16-requires : tie.Need-wide16-requires
+wide16-requires c κs = search needs
 
-mul-result : tie.Need-mul-result
-mul-result c = search needs
-
-element-copy-out-result : tie.Need-element-copy-out-result
-element-copy-out-result c = search needs
+word-at-requires : tie.Need-word-at-requires
+word-at-requires c κs = search needs
 
 returns : tie.Need-returns
 returns c = cc
 
 pub first-of-spec : {M : Type 1} → statement M
-first-of-spec = tie.close (tie.spec wide-requires mul-result element-copy-out-result returns)
+first-of-spec = tie.close (tie.spec wide16-requires word-at-requires returns)

@@ -6,9 +6,10 @@ use mathlib.Core.List.{List}
 use mathlib.Core.Path.{_≡_, sym, _∙_, ap}
 use Prim.Native.Nat.{ℕ, _-_}
 use native.Mathlib.Omega.{arith}
+use lib.ListN.{getD}
 use Rattle.model.specs.Walk.{isEmpty}
 use Rattle.matching.specs.Augmenting.{ground, columnsIn, columnsFrom}
-use Rattle.matching.proofs.Visits.Row.{row-begins, from-none, in-passed, from-pass, from-take}
+use Rattle.matching.proofs.Visits.Row.{any-begins, from-none, in-passed, from-pass, from-take}
 use Rattle.matching.proofs.augmenting.has_conflict.Statement.{statement}
 use Rattle.matching.proofs.augmenting.has_conflict.Tie as tie
 
@@ -17,25 +18,24 @@ abbrev some-left : List ℕ → Bool
 some-left js = not (isEmpty js)
 
 abbrev Inv-loop : tie.InvT-loop
-Inv-loop lean m list starts i row t₀ end t =
+Inv-loop lean m list starts i t₀ end t =
     columnsIn (ground lean m list starts) i ≡ columnsFrom (ground lean m list starts) i (end - t) t
 
 abbrev μ-loop : tie.MeasureT-loop
-μ-loop lean m list starts i row t₀ end t = end - t
+μ-loop lean m list starts i t₀ end t = end - t
 
-wide-requires : tie.Need-wide-requires Inv-loop μ-loop
-wide-requires c κs = search needs
+wide16-requires : tie.Need-wide16-requires Inv-loop μ-loop
+wide16-requires c κs = search needs
 
-element-copy-out-if1 : tie.Need-element-copy-out-if1 Inv-loop μ-loop
-element-copy-out-if1 c = search needs
+byte-at-requires : tie.Need-byte-at-requires Inv-loop μ-loop
+byte-at-requires c κs = search needs
 
 returns : tie.Need-returns Inv-loop μ-loop
 returns c =
-    let s = c .before .before .before .before in
-    let a = s .args in
+    let a = c .before .before .before .before .before .args in
     let G = ground (a .lean .now) (a .m) (a .list .now) (a .starts .now) in
-    let w = c .before .before .wide in
-    sym (in-passed G (w .result) (a .i) (w .ensures .0) (omega (arith, s .fits)) (c .if1 .taken))
+    let row = c .before .before .wide16 .ensures .0 in
+    sym (in-passed G (a .i) (omega (arith, c .before .byte-at .ensures, ap (λ (x : ℕ). getD (a .lean .now) x 0) row)))
 
 first-of-requires : tie.Need-first-of-requires Inv-loop μ-loop
 first-of-requires c κs = search needs
@@ -45,10 +45,11 @@ end-of-requires c κs = search needs
 
 loop-holds : tie.Need-loop-holds Inv-loop μ-loop
 loop-holds c =
-    let s = c .before .before .before .before .before .before in
-    let a = s .args in
+    let a = c .before .before .before .before .before .before .before .args in
     let G = ground (a .lean .now) (a .m) (a .list .now) (a .starts .now) in
-    row-begins G (a .i) (c .before .first-of .result) (c .end-of .result) (omega (arith, s .fits)) (c .before .first-of .ensures) (c .end-of .ensures)
+    let first = c .before .first-of in
+    let last = c .end-of in
+    any-begins G (a .i) (first .result) (last .result) (first .ensures) (last .ensures .0) (last .ensures .1)
 
 column-of-requires : tie.Need-column-of-requires Inv-loop μ-loop
 column-of-requires c κs = search needs
@@ -81,7 +82,7 @@ loop-again c =
 returns-3 : tie.Need-returns-3 Inv-loop μ-loop
 unfolding isEmpty
 returns-3 c =
-    let a = c .before .before .before .before .before .before .before .before .args in
+    let a = c .before .before .before .before .before .before .before .before .before .args in
     let G = ground (a .lean .now) (a .m) (a .list .now) (a .starts .now) in
     let l = c .before .loop in
     let e = c .before .before .end-of in
@@ -93,8 +94,8 @@ has-conflict-spec =
     (tie.spec
     Inv-loop
     μ-loop
-    wide-requires
-    element-copy-out-if1
+    wide16-requires
+    byte-at-requires
     returns
     first-of-requires
     end-of-requires

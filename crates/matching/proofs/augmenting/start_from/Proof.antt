@@ -5,6 +5,7 @@ use mathlib.Core.Path.{sym, _∙_, ap}
 use lib.ListN.{length}
 use Rattle.matching.specs.Augmenting.{ground}
 use Rattle.matching.proofs.Visits.Arrays.{none-long}
+use Rattle.matching.proofs.Visits.Row.{some-inside}
 use Rattle.matching.proofs.Visits.Starts.{start-passed, start-goes}
 use Rattle.matching.proofs.augmenting.start_from.Statement.{statement}
 use Rattle.matching.proofs.augmenting.start_from.Tie as tie
@@ -17,7 +18,14 @@ no-columns-requires c κs = search needs
 
 row-visit-requires : tie.Need-row-visit-requires
 row-visit-requires c κs =
-    (ap length (c .before .before .no-columns .ensures) ∙ none-long, c .before .before .before .before .before .before .pre)
+    let s = c .before .before .before .before .before .before in
+    let a = s .args in
+    let G = ground (a .lean .now) (a .m) (a .list .now) (a .starts .now) in
+    let some = c .before .before .before .before .has-conflict in (
+      some-inside G (a .i) (sym (some .ensures) ∙ c .before .before .before .if1 .taken),
+      ap length (c .before .before .no-columns .ensures) ∙ none-long,
+      s .pre,
+    )
 
 returns : tie.Need-returns
 returns c =

@@ -1,20 +1,23 @@
 -- `matching::starts::row_counts` meets its contract. The loop's invariant: each number counts the nonzeros passed of the row one place down. The measure is what is left of the nonzeros.
 -- Assumes nothing.
 use borrow.Author.Needs.{needs}
+use mathlib.Core.List.{List}
 use mathlib.Core.Path.{_≡_, _∙_, ap}
+use mathlib.Core.Logic.{⊎-elim}
 use Prim.Native.Nat.{ℕ, _+_, _-_, _≤_}
 use native.Mathlib.Omega.{arith}
 use lib.ListN.{length, getD, length-set}
-use Rattle.matching.specs.Starts.{rowCount}
-use Rattle.matching.proofs.Rows.Counts.{no-starts-long, counts-none, counts-most, counts-more}
+use Rattle.model.specs.Pattern.{rowIn}
+use Rattle.matching.specs.Starts.{sideRoom, sideEnds, rowCount}
+use Rattle.matching.proofs.Rows.Counts.{no-starts-long, counts-none, counts-most, counts-more, counts-passed}
 use Rattle.matching.proofs.starts.row_counts.Statement.{statement}
 use Rattle.matching.proofs.starts.row_counts.Tie as tie
 
 abbrev Inv-loop : tie.InvT-loop
 Inv-loop list nonzeros counts₀ t₀ counts t =
-    (length counts ≡ 257)
+    (length counts ≡ sideEnds)
     × (t ≤ nonzeros)
-    × ((i : ℕ) → i ≤ 256 → getD counts i 0 ≡ rowCount list t i)
+    × ((i : ℕ) → i ≤ sideRoom → getD counts i 0 ≡ rowCount list t i)
 
 abbrev μ-loop : tie.MeasureT-loop
 μ-loop list nonzeros counts₀ t₀ counts t = nonzeros - t
@@ -30,8 +33,8 @@ loop-holds c =
 row-of-requires : tie.Need-row-of-requires Inv-loop μ-loop
 row-of-requires c κs = search needs
 
-wide-requires : tie.Need-wide-requires Inv-loop μ-loop
-wide-requires c κs = search needs
+wide16-requires : tie.Need-wide16-requires Inv-loop μ-loop
+wide16-requires c κs = search needs
 
 add-at : tie.Need-add-at Inv-loop μ-loop
 add-at c = search needs
@@ -44,10 +47,10 @@ array-read-counts c = search needs
 
 add-counts : tie.Need-add-counts Inv-loop μ-loop
 add-counts c =
-    let l = c .before .before .before .loop in
-    let a = c .before .before .before .before .before .before .args in
-    let at = c .wide .result in
-    omega (arith, l .inv .2 (at + 1) (omega arith), counts-most (a .list .now) (l .t) (at + 1))
+    let l = c .before .before .before .before .loop in
+    let a = c .before .before .before .before .before .before .before .args in
+    let at = c .before .wide16 .result + 1 in
+    omega (arith, l .inv .2 at (omega arith), counts-most (a .list .now) (l .t) at)
 
 mul-counts-2 : tie.Need-mul-counts-2 Inv-loop μ-loop
 mul-counts-2 c = search needs
@@ -63,23 +66,24 @@ loop-less c = search needs
 
 loop-again : tie.Need-loop-again Inv-loop μ-loop
 loop-again c =
-    let l = c .before .before .before .loop in
-    let a = c .before .before .before .before .before .before .args in
-    let at = c .wide .result in (
-      length-set (l .counts) (at + 1) (getD (l .counts) (at + 1) 0 + 1) ∙ l .inv .0,
+    let l = c .before .before .before .before .loop in
+    let a = c .before .before .before .before .before .before .before .args in
+    let at = c .before .wide16 .result + 1 in
+    let place : at ≡ rowIn (a .list .now) (l .t) + 1 = omega arith in
+    ⊎-elim
+    (λ w. (
+      ap length (w .1) ∙ length-set (l .counts) at (getD (l .counts) at 0 + 1) ∙ l .inv .0,
       omega arith,
-      counts-more
-          (a .list .now)
-          (l .counts)
-          (l .t)
-          (c .before .row-of .result)
-          at
-          (l .inv .0)
-          (c .before .row-of .ensures)
-          (c .wide .ensures .0)
-          (c .wide .ensures .1)
-          (l .inv .2),
-    )
+      λ i h. ap (λ (x : List ℕ). getD x i 0) (w .1)
+          ∙ counts-more (a .list .now) (l .counts) (l .t) at place (l .inv .2) (l .inv .0) (w .0 .taken) i h,
+    ))
+    (λ w. (
+      ap length (w .1) ∙ l .inv .0,
+      omega arith,
+      λ i h. ap (λ (x : List ℕ). getD x i 0) (w .1)
+          ∙ counts-passed (a .list .now) (l .counts) (l .t) at place (l .inv .2) (w .0 .left) i h,
+    ))
+    (c .if1 .came)
 
 returns : tie.Need-returns Inv-loop μ-loop
 returns c =
@@ -96,7 +100,7 @@ row-counts-spec =
     no-starts-requires
     loop-holds
     row-of-requires
-    wide-requires
+    wide16-requires
     add-at
     mul-counts
     array-read-counts

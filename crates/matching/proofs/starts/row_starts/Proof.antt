@@ -6,20 +6,20 @@ use Prim.Native.Nat.{ℕ, _+_, _-_, _≤_, _<_}
 use native.Mathlib.Omega.{arith}
 use lib.ListN.{length, getD, length-set}
 use Rattle.model.specs.Pattern.{patternOf}
-use Rattle.matching.specs.Starts.{rowStart, rowCount}
+use Rattle.matching.specs.Starts.{sideRoom, sideEnds, rowStart, rowCount}
 use Rattle.matching.proofs.Rows.Counts.{starts-begin, starts-most, sum-is, sum-done, sum-left, start-same}
 use Rattle.matching.proofs.starts.row_starts.Statement.{statement}
 use Rattle.matching.proofs.starts.row_starts.Tie as tie
 
 abbrev Inv-loop : tie.InvT-loop
 Inv-loop list nonzeros starts₀ i₀ starts i =
-    (length starts ≡ 257)
-    × (i ≤ 256)
+    (length starts ≡ sideEnds)
+    × (i ≤ sideRoom)
     × ((k : ℕ) → k ≤ i → getD starts k 0 ≡ rowStart (patternOf 0 0 nonzeros list) k)
-    × ((k : ℕ) → i < k → k ≤ 256 → getD starts k 0 ≡ rowCount list nonzeros k)
+    × ((k : ℕ) → i < k → k ≤ sideRoom → getD starts k 0 ≡ rowCount list nonzeros k)
 
 abbrev μ-loop : tie.MeasureT-loop
-μ-loop list nonzeros starts₀ i₀ starts i = 256 - i
+μ-loop list nonzeros starts₀ i₀ starts i = sideRoom - i
 
 row-counts-requires : tie.Need-row-counts-requires Inv-loop μ-loop
 row-counts-requires c κs = search needs

@@ -1,9 +1,10 @@
--- `pattern::cap_from_percent` meets its contract. Within the limits the product is at most 200 × 2,000.
+-- `pattern::cap_from_percent` meets its contract. Within the limits the product of percentLimit + 100 and nonzeroLimit fits.
 -- Assumes nothing.
 use mathlib.Core.Path.{sym}
 use native.Mathlib.Omega.{arith}
 use native.Mathlib.Nat.{mul-le-mul}
-use Prim.Native.Nat.{ℕ, _*_, _^_, _≤_, _<_}
+use Prim.Native.Nat.{ℕ, _+_, _*_, _^_, _≤_, _<_}
+use Rattle.model.specs.Limits.{nonzeroLimit, percentLimit}
 use Rattle.model.specs.Split.{ceilingHalf, capHundredths, capFromPercent, restFromPercent}
 use Rattle.model.proofs.Theorems.Capped.{cap-too-big, cap-given, cap-refused}
 use Rattle.model.proofs.Theorems.Replies.{cap-told}
@@ -29,7 +30,7 @@ add-hundredths c = search needs
 add-hundredths-2 : tie.Need-add-hundredths-2
 add-hundredths-2 c = search needs
 
-product-fits : {a b : ℕ} → a ≤ 200 → b ≤ 2000 → a * b < 2 ^ 64
+product-fits : {a b : ℕ} → a ≤ 100 + percentLimit → b ≤ nonzeroLimit → a * b < 2 ^ 64
 product-fits g h = omega (arith, mul-le-mul g h)
 
 mul-hundredths : tie.Need-mul-hundredths

@@ -1,4 +1,4 @@
--- `pattern::sizes_verdict` meets its contract. Each early return is the one refusal of the sizes; the product is taken where both numbers are at most 120.
+-- `pattern::sizes_verdict` meets its contract. Each early return is the one refusal of the sizes; the product is taken where both numbers are at most lineLimit.
 -- Assumes nothing.
 use mathlib.Core.Path.{sym, _∙_}
 use native.Mathlib.Omega.{arith}

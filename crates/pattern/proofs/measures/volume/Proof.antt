@@ -6,7 +6,7 @@ use Rattle.model.specs.declared.Verdict.the-variants.{Accepted}
 use Rattle.pattern.specs.Measures.{measureVerdict, volumeCall, volumeReplies}
 use Rattle.model.proofs.Theorems.Checks.{rows-range, columns-range, nonzeros-small}
 use Rattle.pattern.proofs.Verdicts.{accepted-tag}
-use Rattle.pattern.proofs.Answers.{measured-told, measure-sizes, volume-value, volume-refused}
+use Rattle.pattern.proofs.Answers.{measured-told, measure-sizes, lines-few, volume-value, volume-refused}
 use borrow.Author.Needs.{needs}
 use Rattle.pattern.proofs.measures.volume.Statement.{statement}
 use Rattle.pattern.proofs.measures.volume.Tie as tie
@@ -41,7 +41,7 @@ enum-known-verdict c = search needs
 
 returns : tie.Need-returns
 unfolding volumeCall volumeReplies
-returns c = measured-told _ _ (volume-value _ _ _ _ _ _ (accepted (c .before .before)) (c .volume-of .ensures))
+returns c = measured-told _ _ (volume-value _ _ _ _ _ _ (accepted (c .before .before)) (c .volume-of .ensures (lines-few _ _ _ _ _ (accepted (c .before .before)))))
 
 returns-2 : tie.Need-returns-2
 unfolding volumeCall volumeReplies

@@ -8,14 +8,14 @@ use Rattle.pattern.proofs.reading.column_of.Tie as tie
 wide16-requires : tie.Need-wide16-requires
 wide16-requires c κs = search needs
 
-mul-byte-at : tie.Need-mul-byte-at
-mul-byte-at c = search needs
+mul-number-at : tie.Need-mul-number-at
+mul-number-at c = search needs
 
-add-byte-at : tie.Need-add-byte-at
-add-byte-at c = search needs
+add-number-at : tie.Need-add-number-at
+add-number-at c = search needs
 
-byte-at-requires : tie.Need-byte-at-requires
-byte-at-requires c κs = search needs
+number-at-requires : tie.Need-number-at-requires
+number-at-requires c κs = search needs
 
 returns : tie.Need-returns
 unfolding columnIn
@@ -23,4 +23,4 @@ returns c = cc
 
 pub column-of-spec : {M : Type 1} → statement M
 column-of-spec =
-    tie.close (tie.spec wide16-requires mul-byte-at add-byte-at byte-at-requires returns)
+    tie.close (tie.spec wide16-requires mul-number-at add-number-at number-at-requires returns)

@@ -1,7 +1,10 @@
--- `pattern::hold_lines` meets its contract. Row and column are below 256, so both lines are below 512.
+-- `pattern::hold_lines` meets its contract. A line past the array's end is not held.
 -- Assumes nothing.
+use mathlib.Core.List.{List}
+use Prim.Native.Nat.{ℕ, _+_}
+use mathlib.Core.Path.{sym, _∙_, ap}
+use lib.ListN.{set}
 use Rattle.pattern.proofs.Lines.{with-in, with-out}
-use mathlib.Core.Path.{sym, _∙_}
 use borrow.Author.Needs.{needs}
 use Rattle.pattern.proofs.splits.hold_lines.Statement.{statement}
 use Rattle.pattern.proofs.splits.hold_lines.Tie as tie
@@ -12,30 +15,34 @@ is-in-requires c κs = search needs
 row-of-requires : tie.Need-row-of-requires
 row-of-requires c κs = search needs
 
-wide-requires : tie.Need-wide-requires
-wide-requires c κs = search needs
+wide16-requires : tie.Need-wide16-requires
+wide16-requires c κs = search needs
 
-wide-requires-2 : tie.Need-wide-requires-2
-wide-requires-2 c κs = search needs
+wide16-requires-2 : tie.Need-wide16-requires-2
+wide16-requires-2 c κs = search needs
 
 column-of-requires : tie.Need-column-of-requires
 column-of-requires c κs = search needs
 
-wide-requires-3 : tie.Need-wide-requires-3
-wide-requires-3 c κs = search needs
+wide16-requires-3 : tie.Need-wide16-requires-3
+wide16-requires-3 c κs = search needs
 
 add-column : tie.Need-add-column
 add-column c = search needs
 
-element-write-held : tie.Need-element-write-held
-element-write-held c = search needs
+put-requires : tie.Need-put-requires
+put-requires c κs = search needs
 
-element-write-held-2 : tie.Need-element-write-held-2
-element-write-held-2 c = search needs
+put-requires-2 : tie.Need-put-requires-2
+put-requires-2 c κs = search needs
 
 returns : tie.Need-returns
 returns c =
-    sym
+    let row = c .before .before .before .before .before .before .before in
+    let column = c .before .before .before .before in
+    c .put2 .ensures
+    ∙ ap (λ (held : List ℕ). set held (column .before .before .wide162 .result + column .wide163 .result) 1) (c .before .before .put .ensures)
+    ∙ sym
     (with-in
     _
     _
@@ -46,10 +53,10 @@ returns c =
     _
     _
     _
-    (sym (c .before .before .before .before .before .before .is-in .ensures) ∙ c .before .before .before .before .before .if1 .taken)
-    (c .before .before .before .wide .ensures .0 ∙ c .before .before .before .before .row-of .ensures)
-    (c .before .before .wide2 .ensures .0)
-    (c .wide3 .ensures .0 ∙ c .before .column-of .ensures))
+    (sym (row .before .before .before .is-in .ensures) ∙ row .before .before .if1 .taken)
+    (row .wide16 .ensures .0 ∙ row .before .row-of .ensures)
+    (column .before .before .wide162 .ensures .0)
+    (column .wide163 .ensures .0 ∙ column .before .column-of .ensures))
 
 returns-2 : tie.Need-returns-2
 returns-2 c = sym (with-out _ _ _ _ _ _ (sym (c .before .is-in .ensures) ∙ c .if1 .left))
@@ -60,12 +67,12 @@ hold-lines-spec =
     (tie.spec
     is-in-requires
     row-of-requires
-    wide-requires
-    wide-requires-2
+    wide16-requires
+    wide16-requires-2
     column-of-requires
-    wide-requires-3
+    wide16-requires-3
     add-column
-    element-write-held
-    element-write-held-2
+    put-requires
+    put-requires-2
     returns
     returns-2)

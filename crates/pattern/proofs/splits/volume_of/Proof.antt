@@ -1,7 +1,8 @@
 -- `pattern::volume_of` meets its contract. The lines held for both parts are the cut lines, and their number is the volume.
 -- Assumes nothing.
-use mathlib.Core.Path.{_∙_}
-use native.Mathlib.Omega.{arith}
+use mathlib.Core.Path.{_∙_, ap}
+use Rattle.counting.specs.Sums.{count}
+use Rattle.pattern.specs.Splits.{bothHeld}
 use Rattle.pattern.proofs.Lines.{volume-from}
 use borrow.Author.Needs.{needs}
 use Rattle.pattern.proofs.splits.volume_of.Statement.{statement}
@@ -12,6 +13,12 @@ held-lines-requires c κs = search needs
 
 held-lines-requires-2 : tie.Need-held-lines-requires-2
 held-lines-requires-2 c κs = search needs
+
+wide16-requires : tie.Need-wide16-requires
+wide16-requires c κs = search needs
+
+wide16-requires-2 : tie.Need-wide16-requires-2
+wide16-requires-2 c κs = search needs
 
 add-lines : tie.Need-add-lines
 add-lines c = search needs
@@ -26,9 +33,11 @@ cuts-of-requires : tie.Need-cuts-of-requires
 cuts-of-requires c κs = search needs
 
 returns : tie.Need-returns
-returns c =
-    let a = c .before .before .before .before .before .before .before .args in
+returns c few =
+    let w = c .before .before .before .before in
+    let a = w .before .before .before .before .before .args in
     c .cuts-of .ensures
+    ∙ ap (count (bothHeld _ _)) (rw (w .wide16 .ensures .0, c .before .before .before .wide162 .ensures .0))
     ∙ volume-from
     (a .m)
     (a .n)
@@ -37,9 +46,9 @@ returns c =
     (a .parts .now)
     _
     _
-    (c .before .before .before .before .held-lines .ensures)
-    (c .before .before .before .held-lines2 .ensures)
-    (omega arith)
+    (w .before .before .held-lines .ensures)
+    (w .before .held-lines2 .ensures)
+    few
 
 pub volume-of-spec : {M : Type 1} → statement M
 volume-of-spec =
@@ -47,6 +56,8 @@ volume-of-spec =
     (tie.spec
     held-lines-requires
     held-lines-requires-2
+    wide16-requires
+    wide16-requires-2
     add-lines
     slice-aggregate-cuts-of
     slice-aggregate-cuts-of-2

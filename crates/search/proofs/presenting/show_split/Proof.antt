@@ -1,9 +1,8 @@
 -- `search::presenting::show_split` meets its contract.
 -- Assumes nothing.
+use Rattle.bound.proofs.Evaluations.{listed-few}
 use Rattle.search.proofs.Splits.{parts-shown, volume-shown}
 use borrow.Author.Needs.{needs}
-use Prim.Native.Nat.{_<_}
-use native.Mathlib.Omega.{arith}
 use Rattle.search.proofs.presenting.show_split.Statement.{statement}
 use Rattle.search.proofs.presenting.show_split.Tie as tie
 
@@ -35,12 +34,10 @@ returns c =
     let k = j .before .before in
     let t = k .before .before .lines-of in
     let h = k .before .before .before .before in
-    let s = h .before .before .before in
-    let a = s .args in
-    let few : t .result < 512 = omega (arith, t .ensures, s .fits) in
-    let parts = parts-shown (a .m) (a .n) (a .nonzeros) (a .list .now) (a .places .now) (a .starts .now) (a .caps) (t .result) (a .best) (h .cleared .result) (k .marks-by-line .result) (a .parts .now) _ (j .evaluate-lines .result) (h .cleared .ensures) (t .ensures) few (k .marks-by-line .ensures) (j .evaluate-lines .ensures) (w .write-split .ensures) in
-    let volume = volume-shown (a .m) (a .n) (a .nonzeros) (a .list .now) (a .places .now) (a .starts .now) (a .caps) (t .result) (a .best) (h .cleared .result) (k .marks-by-line .result) (a .parts .now) _ (j .evaluate-lines .result) (h .cleared .ensures) (t .ensures) few (k .marks-by-line .ensures) (j .evaluate-lines .ensures) (w .write-split .ensures) in
-    (λ listed placed short room. volume listed placed short (c .volume-of .result) room (c .volume-of .ensures), λ listed placed short. parts listed placed short)
+    let a = h .before .before .before .args in
+    let parts = parts-shown (a .m) (a .n) (a .nonzeros) (a .list .now) (a .places .now) (a .starts .now) (a .caps) (t .result) (a .best) (h .cleared .result) (k .marks-by-line .result) (a .parts .now) _ (j .evaluate-lines .result) (h .cleared .ensures) (t .ensures) (k .marks-by-line .ensures) (j .evaluate-lines .ensures) (w .write-split .ensures) in
+    let volume = volume-shown (a .m) (a .n) (a .nonzeros) (a .list .now) (a .places .now) (a .starts .now) (a .caps) (t .result) (a .best) (h .cleared .result) (k .marks-by-line .result) (a .parts .now) _ (j .evaluate-lines .result) (h .cleared .ensures) (t .ensures) (k .marks-by-line .ensures) (j .evaluate-lines .ensures) (w .write-split .ensures) in
+    (λ listed placed short room. volume listed placed short (c .volume-of .result) room (c .volume-of .ensures (listed-few listed)), λ listed placed short. parts listed placed short)
 
 pub show-split-spec : {M : Type 1} → statement M
 show-split-spec =

@@ -56,9 +56,8 @@ returns-5 c =
 
 counts-fine-requires : tie.Need-counts-fine-requires
 counts-fine-requires c κs =
-    let ranged = c .before .before in
-    let small = sym (ranged .before .caps-outside .ensures) ∙ ranged .if4 .left in
-    (ranged .before .before .before .before .before .pre, omega (arith, c .if5 .left, caps-ranged _ small Zero, caps-ranged _ small One))
+    let start = c .before .before .before .before .before .before .before in
+    (start .pre .0, start .pre .1)
 
 returns-6 : tie.Need-returns-6
 returns-6 c =

@@ -6,13 +6,14 @@ use mathlib.Core.Path.{_≡_, sym, _∙_}
 use Prim.Native.Nat.{_≤_, _-_}
 use native.Mathlib.Omega.{arith}
 use Rattle.counting.proofs.Joined.{pick-true, pick-false}
+use Rattle.trail.specs.Trail.{markRoom}
 use Rattle.state.specs.Holding.{clearedTo}
 use Rattle.state.proofs.Cleared.{keptTo, kept-none, kept-more, kept-trail}
 use Rattle.state.proofs.holding.cleared.Statement.{statement}
 use Rattle.state.proofs.holding.cleared.Tie as tie
 
 abbrev Inv-loop : tie.InvT-loop
-Inv-loop marks len kept₀ i₀ kept i = (i ≤ len) × (len ≤ 240) × (kept ≡ keptTo marks i)
+Inv-loop marks len kept₀ i₀ kept i = (i ≤ len) × (len ≤ markRoom) × (kept ≡ keptTo marks i)
 
 abbrev μ-loop : tie.MeasureT-loop
 μ-loop marks len kept₀ i₀ kept i = len - i
@@ -22,7 +23,7 @@ no-trail-requires c κs = search needs
 
 returns : tie.Need-returns Inv-loop μ-loop
 unfolding clearedTo
-returns c = c .no-trail .ensures ∙ sym (pick-true _ _ (lt-ltb 240 _ (c .before .if1 .taken)))
+returns c = c .no-trail .ensures ∙ sym (pick-true _ _ (lt-ltb markRoom _ (c .before .if1 .taken)))
 
 no-marks-requires : tie.Need-no-marks-requires Inv-loop μ-loop
 no-marks-requires c κs = search needs
@@ -53,7 +54,7 @@ returns-2 c =
     let trail = c .before .before .before .before .before .args .trail in
     let l = c .before .loop in
     let e : l .i ≡ trail .len = omega arith in
-    kept-trail trail (l .i) (l .kept) e (l .inv .2) ∙ sym (pick-false _ _ (le-ltb 240 _ (l .inv .1)))
+    kept-trail trail (l .i) (l .kept) e (l .inv .2) ∙ sym (pick-false _ _ (le-ltb markRoom _ (l .inv .1)))
 
 pub cleared-spec : {M : Type 1} → statement M
 cleared-spec =

@@ -11,11 +11,11 @@ use Rattle.testing.proofs.cases.field_at.Statement.{statement}
 use Rattle.testing.proofs.cases.field_at.Tie as tie
 
 abbrev Inv-loop : tie.InvT-loop
-Inv-loop cases at kind page₀ len₀ next₀ page len next =
-    (len ≤ length cases) × (length page ≡ length page₀) × (fieldFrom kind cases page len next (length cases - len) ≡ fieldAt kind cases at page₀)
+Inv-loop cases at kind page₀ len₀ next₀ turn₀ page len next turn =
+    (turn ≤ length cases) × (length page ≡ length page₀) × (fieldFrom kind cases page len next (length cases - turn) ≡ fieldAt kind cases at page₀)
 
 abbrev μ-loop : tie.MeasureT-loop
-μ-loop cases at kind page₀ len₀ next₀ page len next = length cases - len
+μ-loop cases at kind page₀ len₀ next₀ turn₀ page len next turn = length cases - turn
 
 loop-holds : tie.Need-loop-holds Inv-loop μ-loop
 loop-holds c = (omega arith, refl, field-all _ _ _ _)
@@ -41,32 +41,29 @@ returns c =
     let whole = sym (field-here (a .kind) (a .cases .now) (v .page) (v .len) (v .next) _ (rw (letter .letter-at .ensures) at (sym (ends .ends-field .ensures) ∙ c .before .if1 .taken))) ∙ v .inv .2 in
     rw (← whole) (c .field-of .ensures, refl)
 
-byte-given-requires : tie.Need-byte-given-requires Inv-loop μ-loop
-byte-given-requires c κs = search needs
+given-at-requires : tie.Need-given-at-requires Inv-loop μ-loop
+given-at-requires c κs = search needs
 
-cast-put : tie.Need-cast-put Inv-loop μ-loop
-cast-put c = search needs
+lay-given-requires : tie.Need-lay-given-requires Inv-loop μ-loop
+lay-given-requires c κs = search needs
 
-put-requires : tie.Need-put-requires Inv-loop μ-loop
-put-requires c κs = search needs
-
-add-len : tie.Need-add-len Inv-loop μ-loop
-add-len c = search needs
+add-turn : tie.Need-add-turn Inv-loop μ-loop
+add-turn c = search needs
 
 loop-less : tie.Need-loop-less Inv-loop μ-loop
 loop-less c = search needs
 
 loop-again : tie.Need-loop-again Inv-loop μ-loop
 loop-again c =
-    let put = c .before .before in
-    let given = put .before .before .before in
+    let laid = c .before .before in
+    let given = laid .before .before in
     let ends = given .before .before in
     let letter = ends .before in
     let v = letter .before .before .loop in
     let a = letter .before .before .before .before .before .args in (
       omega arith,
-      put .put .kept .0 ∙ v .inv .1,
-      rw (put .put .ensures) (sym (field-on (a .kind) (a .cases .now) (v .page) (v .len) (v .next) (length (a .cases .now)) (given .byte-given .result) (letter .before .loop-test .taken) (rw (letter .letter-at .ensures) at (sym (ends .ends-field .ensures) ∙ given .before .if1 .left)) (given .byte-given .ensures)) ∙ v .inv .2),
+      laid .lay-given .kept .0 ∙ v .inv .1,
+      rw (laid .lay-given .ensures .0, laid .lay-given .ensures .1) (sym (field-on (a .kind) (a .cases .now) (v .page) (v .len) (v .next) (v .turn) (length (a .cases .now)) (given .given-at .result) (letter .before .loop-test .taken) (rw (letter .letter-at .ensures) at (sym (ends .ends-field .ensures) ∙ given .before .if1 .left)) (given .given-at .ensures)) ∙ v .inv .2),
     )
 
 field-of-requires-2 : tie.Need-field-of-requires-2 Inv-loop μ-loop
@@ -79,7 +76,7 @@ returns-2 : tie.Need-returns-2 Inv-loop μ-loop
 returns-2 c =
     let v = c .before .before .loop in
     let a = c .before .before .before .before .before .args in
-    let whole = sym (field-over (a .kind) (a .cases .now) (v .page) (v .len) (v .next) (length (a .cases .now)) (c .before .loop-test .left)) ∙ v .inv .2 in
+    let whole = sym (field-over (a .kind) (a .cases .now) (v .page) (v .len) (v .next) (v .turn) (length (a .cases .now)) (c .before .loop-test .left)) ∙ v .inv .2 in
     rw (← whole) (c .field-of2 .ensures, refl)
 
 pub field-at-spec : {M : Type 1} → statement M
@@ -94,10 +91,9 @@ field-at-spec =
     field-of-requires
     same-length
     returns
-    byte-given-requires
-    cast-put
-    put-requires
-    add-len
+    given-at-requires
+    lay-given-requires
+    add-turn
     loop-less
     loop-again
     field-of-requires-2

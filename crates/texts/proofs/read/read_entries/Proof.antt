@@ -1,13 +1,10 @@
 -- `texts::read_entries` meets its contract.
 -- Assumes nothing.
 use Rattle.pattern.proofs.Verdicts.{accepted-tag}
-use Rattle.texts.proofs.Answers.{cells-are, nonzeros-are, below-is, answer-read, list-read, parts-read, answer-refused, list-kept, parts-kept}
+use Rattle.texts.proofs.Answers.{no-cells, cells-are, nonzeros-are, below-is, answer-read, list-read, parts-read, answer-refused, list-kept, parts-kept}
 use borrow.Author.Needs.{needs}
 use Rattle.texts.proofs.read.read_entries.Statement.{statement}
 use Rattle.texts.proofs.read.read_entries.Tie as tie
-
-no-cells-requires : tie.Need-no-cells-requires
-no-cells-requires c κs = search needs
 
 slice-aggregate-note-entries : tie.Need-slice-aggregate-note-entries
 slice-aggregate-note-entries c = search needs
@@ -39,14 +36,14 @@ slice-aggregate-give c = search needs
 give-requires : tie.Need-give-requires
 give-requires c κs = search needs
 
+cast-t28 : tie.Need-cast-t28
+cast-t28 c = search needs
+
 cast-t29 : tie.Need-cast-t29
 cast-t29 c = search needs
 
 cast-t30 : tie.Need-cast-t30
 cast-t30 c = search needs
-
-cast-t31 : tie.Need-cast-t31
-cast-t31 c = search needs
 
 is-integer-requires : tie.Need-is-integer-requires
 is-integer-requires c κs = search needs
@@ -61,16 +58,15 @@ same-length-2 : tie.Need-same-length-2
 same-length-2 c = search needs
 
 returns : tie.Need-returns
-returns c = let s = c .before .before .before .before .before .before .before .before .before .before .before .before .before .before .before .before .before .before .before .before .before .no-cells .ensures in let e = c .before .before .before .before .before .before .before .before .before .before .before .before .before .before .before .before .before .before .before .note-entries .ensures in let n = c .before .before .before .before .before .before .before .before .before .before .before .before .before .before .before .count-given .ensures in let v = below-is _ _ _ s _ _ _ _ _ _ _ (e .0) (e .1) n (c .before .before .before .before .before .before .before .before .before .before .before .before .before .before .opened-verdict .ensures) (c .before .before .before .before .before .before .before .before .before .before .before .before .before .and-then .ensures) in let a = accepted-tag _ (c .before .before .before .before .before .before .before .before .before .before .before .before .match .keys1) in let cells = cells-are _ _ _ s _ (e .1) in (answer-read _ _ _ v a _ _ _ (nonzeros-are _ _ _ s _ _ (e .1) n) (c .is-integer .ensures), (list-read _ _ _ v a _ _ _ _ cells (c .before .before .before .before .before .before .before .give .ensures .0), parts-read _ _ _ v a _ _ _ _ cells (c .before .before .before .before .before .before .before .give .ensures .1)))
+returns c = let s = no-cells in let e = c .before .before .before .before .before .before .before .before .before .before .before .before .before .before .before .before .before .before .before .note-entries .ensures in let n = c .before .before .before .before .before .before .before .before .before .before .before .before .before .before .before .count-given .ensures in let v = below-is _ _ _ s _ _ _ _ _ _ _ (e .0) (e .1) n (c .before .before .before .before .before .before .before .before .before .before .before .before .before .before .opened-verdict .ensures) (c .before .before .before .before .before .before .before .before .before .before .before .before .before .and-then .ensures) in let a = accepted-tag _ (c .before .before .before .before .before .before .before .before .before .before .before .before .match .keys1) in let cells = cells-are _ _ _ s _ (e .1) in (answer-read _ _ _ v a _ _ _ (nonzeros-are _ _ _ s _ _ (e .1) n) (c .is-integer .ensures), (list-read _ _ _ v a _ _ _ _ cells (c .before .before .before .before .before .before .before .give .ensures .0), parts-read _ _ _ v a _ _ _ _ cells (c .before .before .before .before .before .before .before .give .ensures .1)))
 
 returns-2 : tie.Need-returns-2
-returns-2 c = let s = c .before .before .before .before .before .before .before .before .before .before .before .no-cells .ensures in let e = c .before .before .before .before .before .before .before .before .before .note-entries .ensures in let n = c .before .before .before .before .before .count-given .ensures in let v = below-is _ _ _ s _ _ _ _ _ _ _ (e .0) (e .1) n (c .before .before .before .before .opened-verdict .ensures) (c .before .before .before .and-then .ensures) in let a = c .before .verdict .given .1 in (answer-refused _ _ _ v _ _ a _, (list-kept _ _ _ v _ _ a _ _, parts-kept _ _ _ v _ _ a _ _))
+returns-2 c = let s = no-cells in let e = c .before .before .before .before .before .before .before .before .before .note-entries .ensures in let n = c .before .before .before .before .before .count-given .ensures in let v = below-is _ _ _ s _ _ _ _ _ _ _ (e .0) (e .1) n (c .before .before .before .before .opened-verdict .ensures) (c .before .before .before .and-then .ensures) in let a = c .before .verdict .given .1 in (answer-refused _ _ _ v _ _ a _, (list-kept _ _ _ v _ _ a _ _, parts-kept _ _ _ v _ _ a _ _))
 
 pub read-entries-spec : {M : Type 1} → statement M
 read-entries-spec =
     tie.close
     (tie.spec
-    no-cells-requires
     slice-aggregate-note-entries
     note-entries-requires
     slice-aggregate-count-given
@@ -81,9 +77,9 @@ read-entries-spec =
     enum-told
     slice-aggregate-give
     give-requires
+    cast-t28
     cast-t29
     cast-t30
-    cast-t31
     is-integer-requires
     enum-known-verdict
     same-length

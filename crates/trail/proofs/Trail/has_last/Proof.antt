@@ -3,7 +3,7 @@
 use mathlib.Core.Path.{ap}
 use Prim.Native.Nat.{ℕ}
 use lib.Dec.{ltb}
-use Rattle.trail.specs.Trail.{hasLast}
+use Rattle.trail.specs.Trail.{markRoom, hasLast}
 use borrow.Author.Needs.{needs}
 use Rattle.trail.proofs.Trail.has_last.Statement.{statement}
 use Rattle.trail.proofs.Trail.has_last.Tie as tie
@@ -13,7 +13,7 @@ top-requires c κs = search needs
 
 returns : tie.Need-returns
 unfolding hasLast
-returns c = ap (λ (y : ℕ). ltb y 240) (c .top .ensures)
+returns c = ap (λ (y : ℕ). ltb y markRoom) (c .top .ensures)
 
 pub has-last-spec : {M : Type 1} → statement M
 has-last-spec = tie.close (tie.spec top-requires returns)

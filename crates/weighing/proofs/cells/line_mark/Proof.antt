@@ -5,12 +5,12 @@ use Rattle.weighing.specs.Cells.{markingIn}
 use Rattle.weighing.proofs.cells.line_mark.Statement.{statement}
 use Rattle.weighing.proofs.cells.line_mark.Tie as tie
 
-byte-or-requires : tie.Need-byte-or-requires
-byte-or-requires c κs = search needs
+byte-at-line-requires : tie.Need-byte-at-line-requires
+byte-at-line-requires c κs = search needs
 
 returns : tie.Need-returns
 unfolding markingIn
 returns c = search needs
 
 pub line-mark-spec : {M : Type 1} → statement M
-line-mark-spec = tie.close (tie.spec byte-or-requires returns)
+line-mark-spec = tie.close (tie.spec byte-at-line-requires returns)

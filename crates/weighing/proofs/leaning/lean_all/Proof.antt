@@ -6,6 +6,8 @@ use Prim.Native.Nat.{_+_, _-_, _≤_}
 use native.Mathlib.Omega.{arith}
 use Rattle.counting.proofs.Joined.{bit-le-one}
 use Rattle.model.specs.Bound.{saysCut, saysTorn}
+use Rattle.pattern.specs.Room.{within}
+use Rattle.pattern.proofs.Within.{within-most}
 use Rattle.weighing.specs.Leaning.{leanNumber, conditionIn}
 use Rattle.weighing.proofs.Steps.{bit-named}
 use Rattle.weighing.proofs.Stores.{value-named}
@@ -15,26 +17,23 @@ use Rattle.weighing.proofs.leaning.lean_all.Tie as tie
 
 abbrev Inv-loop : tie.InvT-loop
 Inv-loop m n marks by-zero by-one lean₀ total cut₀ torn₀ l₀ lean cut torn l =
-    (total ≡ m + n)
+    (total ≡ within (m + n))
     × (l ≤ total)
     × LeansTo (conditionIn marks by-zero by-one) l cut torn lean₀ lean
 
 abbrev μ-loop : tie.MeasureT-loop
 μ-loop m n marks by-zero by-one lean₀ total cut₀ torn₀ l₀ lean cut torn l = total - l
 
-wide-requires : tie.Need-wide-requires Inv-loop μ-loop
-wide-requires c κs = search needs
+lines-of-requires : tie.Need-lines-of-requires Inv-loop μ-loop
+lines-of-requires c κs = search needs
 
-wide-requires-2 : tie.Need-wide-requires-2 Inv-loop μ-loop
-wide-requires-2 c κs = search needs
-
-add-total : tie.Need-add-total Inv-loop μ-loop
-add-total c = omega arith
+wide16-requires : tie.Need-wide16-requires Inv-loop μ-loop
+wide16-requires c κs = search needs
 
 loop-holds : tie.Need-loop-holds Inv-loop μ-loop
 loop-holds c =
     let a = c .before .before .args in (
-      omega (arith, c .wide2 .ensures .0, c .before .wide .ensures .0),
+      c .wide16 .ensures .0 ∙ c .before .lines-of .ensures,
       omega arith,
       leans-start (conditionIn (a .marks .now) (a .by-zero .now) (a .by-one .now)) (a .lean .now),
     )
@@ -62,7 +61,7 @@ add-cut c =
       c .bit-of .ensures,
       bit-le-one (c .before .is-cut .result),
       c .before .before .before .before .before .before .before .loop .inv .0,
-      c .before .before .before .before .before .before .before .before .before .before .fits,
+      within-most (c .before .before .before .before .before .before .before .before .before .before .args .m + c .before .before .before .before .before .before .before .before .before .before .args .n),
     )
 
 is-torn-requires : tie.Need-is-torn-requires Inv-loop μ-loop
@@ -79,7 +78,7 @@ add-torn c =
       c .bit-of2 .ensures,
       bit-le-one (c .before .is-torn .result),
       c .before .before .before .before .before .before .before .before .before .loop .inv .0,
-      c .before .before .before .before .before .before .before .before .before .before .before .before .fits,
+      within-most (c .before .before .before .before .before .before .before .before .before .before .before .before .args .m + c .before .before .before .before .before .before .before .before .before .before .before .before .args .n),
     )
 
 add-l : tie.Need-add-l Inv-loop μ-loop
@@ -87,7 +86,7 @@ add-l c =
     omega (
       arith,
       c .before .before .before .before .before .before .before .before .before .loop .inv .0,
-      c .before .before .before .before .before .before .before .before .before .before .before .before .fits,
+      within-most (c .before .before .before .before .before .before .before .before .before .before .before .before .args .m + c .before .before .before .before .before .before .before .before .before .before .before .before .args .n),
     )
 
 loop-less : tie.Need-loop-less Inv-loop μ-loop
@@ -117,7 +116,7 @@ loop-again c =
     )
 
 returns : tie.Need-returns Inv-loop μ-loop
-returns c = leans-end (omega arith) (omega (arith, c .before .before .before .before .fits)) (c .before .loop .inv .2)
+returns c = leans-end (omega arith) (omega (arith, within-most (c .before .before .before .before .args .m + c .before .before .before .before .args .n))) (c .before .loop .inv .2)
 
 pub lean-all-spec : {M : Type 1} → statement M
 lean-all-spec =
@@ -125,9 +124,8 @@ lean-all-spec =
     (tie.spec
     Inv-loop
     μ-loop
-    wide-requires
-    wide-requires-2
-    add-total
+    lines-of-requires
+    wide16-requires
     loop-holds
     condition-at-requires
     lean-number-requires

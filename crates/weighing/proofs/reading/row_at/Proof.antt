@@ -1,22 +1,40 @@
 -- `weighing::reading::row_at` meets its contract.
 -- Assumes nothing.
 use borrow.Author.Needs.{needs}
-use Rattle.model.specs.Pattern.{rowIn}
+use Rattle.model.specs.Pattern.{lowIn, highIn, numberIn, rowIn}
 use Rattle.weighing.proofs.reading.row_at.Statement.{statement}
 use Rattle.weighing.proofs.reading.row_at.Tie as tie
 
 wide16-requires : tie.Need-wide16-requires
 wide16-requires c κs = search needs
 
-mul-result : tie.Need-mul-result
-mul-result c = search needs
+mul-at : tie.Need-mul-at
+mul-at c = search needs
 
-shared-slice-read-result : tie.Need-shared-slice-read-result
-shared-slice-read-result c = search needs
+shared-slice-read-number-of : tie.Need-shared-slice-read-number-of
+shared-slice-read-number-of c = search needs
+
+add-number-of : tie.Need-add-number-of
+add-number-of c = search needs
+
+shared-slice-read-number-of-2 : tie.Need-shared-slice-read-number-of-2
+shared-slice-read-number-of-2 c = search needs
+
+number-of-requires : tie.Need-number-of-requires
+number-of-requires c κs = search needs
 
 returns : tie.Need-returns
-unfolding rowIn
+unfolding lowIn highIn numberIn rowIn
 returns c = cc
 
 pub row-at-spec : {M : Type 1} → statement M
-row-at-spec = tie.close (tie.spec wide16-requires mul-result shared-slice-read-result returns)
+row-at-spec =
+    tie.close
+    (tie.spec
+    wide16-requires
+    mul-at
+    shared-slice-read-number-of
+    add-number-of
+    shared-slice-read-number-of-2
+    number-of-requires
+    returns)

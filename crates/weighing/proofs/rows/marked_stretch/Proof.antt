@@ -10,6 +10,7 @@ use lib.ListN.{getD}
 use Rattle.counting.specs.Tests.{_and_, pick}
 use Rattle.counting.specs.Sums.{count}
 use Rattle.counting.proofs.Joined.{bit-le-one}
+use Rattle.model.specs.Limits.{lineRoom}
 use Rattle.model.specs.Pattern.{rowIn}
 use Rattle.weighing.specs.Cells.{markingIn}
 use Rattle.weighing.specs.Rows.{columnHas, columnIs, StretchTo}
@@ -22,7 +23,7 @@ Inv-loop m nonzeros list marks row start other lines₀ t₀ others₀ lines t o
     StretchTo list nonzeros row start t
     × (others + start ≤ t)
     × (others + count (columnHas list m (markingIn marks) other) start ≡ count (columnHas list m (markingIn marks) other) t)
-    × ((l : ℕ) → l < 512 → getD lines l 0 ≡ pick (ltb (count (columnIs list m l) start) (count (columnIs list m l) t)) 1 (getD lines₀ l 0))
+    × ((l : ℕ) → l < lineRoom → getD lines l 0 ≡ pick (ltb (count (columnIs list m l) start) (count (columnIs list m l) t)) 1 (getD lines₀ l 0))
 
 abbrev μ-loop : tie.MeasureT-loop
 μ-loop m nonzeros list marks row start other lines₀ t₀ others₀ lines t others = nonzeros - t

@@ -12,8 +12,8 @@ use Rattle.weighing.proofs.ByStretches.{zero-row, one-row, open-row, op
 use Rattle.weighing.proofs.rows.take_row.Statement.{statement}
 use Rattle.weighing.proofs.rows.take_row.Tie as tie
 
-wide-requires : tie.Need-wide-requires
-wide-requires c κs = search needs
+wide16-requires : tie.Need-wide16-requires
+wide16-requires c κs = search needs
 
 line-mark-requires : tie.Need-line-mark-requires
 line-mark-requires c κs = search needs
@@ -39,7 +39,7 @@ returns c =
     let h = c .before .before .before .before .before .before in
     let a = h .before .before .before .before .args in
     let mark = h .before .line-mark in
-    let line = h .before .before .wide in (
+    let line = h .before .before .wide16 in (
       stretch-moves (a .list .now) (a .nonzeros) (a .row) (a .start) (stretch .result .next) (stretch .ensures .0) (stretch .ensures .1) (c .before .before .before .before .before .before .before .before .before .before .pre .1) (c .before .before .before .before .before .before .before .before .before .before .pre .2),
       stretch .ensures .0 .within,
       λ n zero₀ one₀ k. open-named
@@ -81,7 +81,7 @@ returns-2 c =
     let h = c .before .before .before .before .before .before in
     let a = h .before .before .before .before .before .args in
     let mark = h .before .before .line-mark in
-    let line = h .before .before .before .wide in (
+    let line = h .before .before .before .wide16 in (
       stretch-moves (a .list .now) (a .nonzeros) (a .row) (a .start) (stretch .result .next) (stretch .ensures .0) (stretch .ensures .1) (h .before .before .before .before .before .pre .1) (h .before .before .before .before .before .pre .2),
       stretch .ensures .0 .within,
       λ n zero₀ one₀ k. open-named
@@ -125,7 +125,7 @@ returns-3 c =
     let stretch = h .open-stretch in
     let a = h .before .before .before .before .before .before .args in
     let mark = h .before .before .before .line-mark in
-    let line = h .before .before .before .before .wide in (
+    let line = h .before .before .before .before .wide16 in (
       stretch-moves (a .list .now) (a .nonzeros) (a .row) (a .start) (stretch .result .next) (stretch .ensures .0) (stretch .ensures .1) (h .before .before .before .before .before .before .pre .1) (h .before .before .before .before .before .before .pre .2),
       stretch .ensures .0 .within,
       λ n zero₀ one₀ k. open-row
@@ -151,7 +151,7 @@ pub take-row-spec : {M : Type 1} → statement M
 take-row-spec =
     tie.close
     (tie.spec
-    wide-requires
+    wide16-requires
     line-mark-requires
     marked-stretch-requires
     sub-t20

@@ -4,7 +4,10 @@ use borrow.Author.Needs.{needs}
 use mathlib.Core.Path.{sym, _∙_}
 use Prim.Native.Nat.{_+_}
 use native.Mathlib.Omega.{arith}
+use Rattle.model.specs.Limits.{lineLimit}
 use Rattle.model.specs.Bound.{falling}
+use Rattle.pattern.specs.Room.{within}
+use Rattle.pattern.proofs.Within.{within-most}
 use Rattle.weighing.specs.Striking.{linesAt, struckIn}
 use Rattle.weighing.proofs.Struck.{strikes-stop, tally-struck, struck-most}
 use Rattle.weighing.proofs.striking.strike.Statement.{statement}
@@ -12,7 +15,7 @@ use Rattle.weighing.proofs.striking.strike.Tie as tie
 
 returns : tie.Need-returns
 unfolding struckIn
-returns c = let a = c .before .args in sym (strikes-stop (falling (linesAt (a .lean .now) (a .weights .now) (a .part) (a .m + a .n)) 2000) (a .s) (a .room) (c .if1 .taken))
+returns c = let a = c .before .args in sym (strikes-stop (falling (linesAt (a .lean .now) (a .weights .now) (a .part) (within (a .m + a .n))) lineLimit) (a .s) (a .room) (c .if1 .taken))
 
 no-tally-requires : tie.Need-no-tally-requires
 no-tally-requires c κs = search needs
@@ -26,16 +29,16 @@ strike-down-requires c κs =
       omega (arith, c .before .tally .ensures .top-small),
       omega (
         arith,
-        tally-struck (a .lean .now) (a .weights .now) (a .part) (a .m + a .n) (c .before .tally .ensures) (a .s) (a .room),
-        struck-most (a .lean .now) (a .weights .now) (a .part) (a .m + a .n) (a .s) (a .room),
-        c .before .before .before .before .before .fits,
+        tally-struck (a .lean .now) (a .weights .now) (a .part) (within (a .m + a .n)) (c .before .tally .ensures) (a .s) (a .room),
+        struck-most (a .lean .now) (a .weights .now) (a .part) (within (a .m + a .n)) (a .s) (a .room),
+        within-most (a .m + a .n),
       ),
     )
 
 returns-2 : tie.Need-returns-2
 returns-2 c =
     let a = c .before .before .before .before .before .before .args in
-    c .strike-down .ensures ∙ tally-struck (a .lean .now) (a .weights .now) (a .part) (a .m + a .n) (c .before .before .tally .ensures) (a .s) (a .room)
+    c .strike-down .ensures ∙ tally-struck (a .lean .now) (a .weights .now) (a .part) (within (a .m + a .n)) (c .before .before .tally .ensures) (a .s) (a .room)
 
 pub strike-spec : {M : Type 1} → statement M
 strike-spec =

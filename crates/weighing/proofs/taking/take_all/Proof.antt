@@ -7,6 +7,7 @@ use native.Mathlib.Omega.{arith}
 use lib.ListN.{getD}
 use Rattle.counting.specs.Tests.{_and_, pick}
 use Rattle.counting.proofs.Joined.{bit-le-one}
+use Rattle.model.specs.Limits.{lineRoom}
 use Rattle.model.specs.declared.Part.the-variants.{Zero, One}
 use Rattle.model.specs.Pattern.{patternOf, on}
 use Rattle.model.specs.Marking.{takes}
@@ -46,7 +47,7 @@ lines-zero :
     (c : tie.After-touch2 Inv-loop μ-loop) →
     let a = c .before .before .before .before .before .before .before .before .before .before .before .args in
     let turn = c .before .before .before .before .before .before .before .before .before .loop in
-    (l : ℕ) → l < 512 →
+    (l : ℕ) → l < lineRoom →
     getD (c .before .before .touch .last .0) l 0
     ≡ pick (on (patternOf (a .m) (a .n) (a .nonzeros) (a .list .now)) l (turn .t) and takes (patternOf (a .m) (a .n) (a .nonzeros) (a .list .now)) (markingIn (a .marks .now)) Zero (turn .t)) 1 (getD (turn .by-zero) l 0)
 lines-zero c l b =
@@ -61,7 +62,7 @@ lines-one :
     (c : tie.After-touch2 Inv-loop μ-loop) →
     let a = c .before .before .before .before .before .before .before .before .before .before .before .args in
     let turn = c .before .before .before .before .before .before .before .before .before .loop in
-    (l : ℕ) → l < 512 →
+    (l : ℕ) → l < lineRoom →
     getD (c .touch2 .last .0) l 0
     ≡ pick (on (patternOf (a .m) (a .n) (a .nonzeros) (a .list .now)) l (turn .t) and takes (patternOf (a .m) (a .n) (a .nonzeros) (a .list .now)) (markingIn (a .marks .now)) One (turn .t)) 1 (getD (turn .by-one) l 0)
 lines-one c l b =

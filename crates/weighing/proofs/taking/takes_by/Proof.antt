@@ -4,17 +4,17 @@ use borrow.Author.Needs.{needs}
 use Rattle.weighing.proofs.taking.takes_by.Statement.{statement}
 use Rattle.weighing.proofs.taking.takes_by.Tie as tie
 
-wide-requires : tie.Need-wide-requires
-wide-requires c κs = search needs
+wide16-requires : tie.Need-wide16-requires
+wide16-requires c κs = search needs
 
 line-mark-requires : tie.Need-line-mark-requires
 line-mark-requires c κs = search needs
 
-wide-requires-2 : tie.Need-wide-requires-2
-wide-requires-2 c κs = search needs
+wide16-requires-2 : tie.Need-wide16-requires-2
+wide16-requires-2 c κs = search needs
 
-wide-requires-3 : tie.Need-wide-requires-3
-wide-requires-3 c κs = search needs
+wide16-requires-3 : tie.Need-wide16-requires-3
+wide16-requires-3 c κs = search needs
 
 add-line-mark : tie.Need-add-line-mark
 add-line-mark c = search needs
@@ -32,10 +32,10 @@ pub takes-by-spec : {M : Type 1} → statement M
 takes-by-spec =
     tie.close
     (tie.spec
-    wide-requires
+    wide16-requires
     line-mark-requires
-    wide-requires-2
-    wide-requires-3
+    wide16-requires-2
+    wide16-requires-3
     add-line-mark
     line-mark-requires-2
     either-of-requires

@@ -7,17 +7,17 @@ use Rattle.weighing.proofs.Stores.{put-twice}
 use Rattle.weighing.proofs.taking.touch.Statement.{statement}
 use Rattle.weighing.proofs.taking.touch.Tie as tie
 
-wide-requires : tie.Need-wide-requires
-wide-requires c κs = search needs
+wide16-requires : tie.Need-wide16-requires
+wide16-requires c κs = search needs
 
 put-if-requires : tie.Need-put-if-requires
 put-if-requires c κs = search needs
 
-wide-requires-2 : tie.Need-wide-requires-2
-wide-requires-2 c κs = search needs
+wide16-requires-2 : tie.Need-wide16-requires-2
+wide16-requires-2 c κs = search needs
 
-wide-requires-3 : tie.Need-wide-requires-3
-wide-requires-3 c κs = search needs
+wide16-requires-3 : tie.Need-wide16-requires-3
+wide16-requires-3 c κs = search needs
 
 add-put-if : tie.Need-add-put-if
 add-put-if c = search needs
@@ -34,12 +34,12 @@ returns c =
     (c .put-if2 .last .0)
     (a .row)
     (a .m + a .column)
-    (c .before .before .before .before .before .wide .result)
-    (c .before .before .wide2 .result + c .before .wide3 .result)
+    (c .before .before .before .before .before .wide16 .result)
+    (c .before .before .wide162 .result + c .before .wide163 .result)
     1
     (a .test)
-    (c .before .before .before .before .before .wide .ensures .0)
-    (omega (arith, c .before .before .wide2 .ensures .0, c .before .wide3 .ensures .0))
+    (c .before .before .before .before .before .wide16 .ensures .0)
+    (omega (arith, c .before .before .wide162 .ensures .0, c .before .wide163 .ensures .0))
     (c .before .before .before .before .put-if .ensures)
     (c .put-if2 .ensures)
 
@@ -47,10 +47,10 @@ pub touch-spec : {M : Type 1} → statement M
 touch-spec =
     tie.close
     (tie.spec
-    wide-requires
+    wide16-requires
     put-if-requires
-    wide-requires-2
-    wide-requires-3
+    wide16-requires-2
+    wide16-requires-3
     add-put-if
     put-if-requires-2
     returns)

@@ -1,6 +1,7 @@
 -- `weighing::weights::raise_if` meets its contract.
 -- Assumes nothing.
 use borrow.Author.Needs.{needs}
+use Rattle.model.specs.Limits.{lineRoom}
 use Rattle.weighing.proofs.Stores.{raise-passed, raise-failed}
 use Rattle.weighing.proofs.weights.raise_if.Statement.{statement}
 use Rattle.weighing.proofs.weights.raise_if.Tie as tie
@@ -12,7 +13,7 @@ returns : tie.Need-returns
 returns c =
     let a = c .before .before .before .args in
     raise-passed
-    512
+    lineRoom
     (a .weights .now)
     (c .raise .last .0)
     (a .at)
@@ -24,7 +25,7 @@ returns c =
 returns-2 : tie.Need-returns-2
 returns-2 c =
     let a = c .before .args in
-    raise-failed 512 (a .weights .now) (a .at) (a .test) (c .if1 .left)
+    raise-failed lineRoom (a .weights .now) (a .at) (a .test) (c .if1 .left)
 
 pub raise-if-spec : {M : Type 1} → statement M
 raise-if-spec = tie.close (tie.spec raise-requires returns returns-2)

@@ -2,29 +2,29 @@
 -- Assumes nothing.
 use mathlib.Core.Path.{_∙_}
 use Prim.Native.Nat.{_+_}
-use lib.ListN.{getD}
+use Rattle.weighing.specs.Cells.{atLine}
 use borrow.Author.Needs.{needs}
 use Rattle.weighing.proofs.Weighed.{stake-free, stake-none}
 use Rattle.weighing.proofs.weights.stake_by.Statement.{statement}
 use Rattle.weighing.proofs.weights.stake_by.Tie as tie
 
-wide-requires : tie.Need-wide-requires
-wide-requires c κs = search needs
+wide16-requires : tie.Need-wide16-requires
+wide16-requires c κs = search needs
 
-byte-of-requires : tie.Need-byte-of-requires
-byte-of-requires c κs = search needs
+byte-at-line-requires : tie.Need-byte-at-line-requires
+byte-at-line-requires c κs = search needs
 
-wide-requires-2 : tie.Need-wide-requires-2
-wide-requires-2 c κs = search needs
+wide16-requires-2 : tie.Need-wide16-requires-2
+wide16-requires-2 c κs = search needs
 
-wide-requires-3 : tie.Need-wide-requires-3
-wide-requires-3 c κs = search needs
+wide16-requires-3 : tie.Need-wide16-requires-3
+wide16-requires-3 c κs = search needs
 
-add-byte-of : tie.Need-add-byte-of
-add-byte-of c = search needs
+add-byte-at-line : tie.Need-add-byte-at-line
+add-byte-at-line c = search needs
 
-byte-of-requires-2 : tie.Need-byte-of-requires-2
-byte-of-requires-2 c κs = search needs
+byte-at-line-requires-2 : tie.Need-byte-at-line-requires-2
+byte-at-line-requires-2 c κs = search needs
 
 once-requires : tie.Need-once-requires
 once-requires c κs = search needs
@@ -36,30 +36,30 @@ returns c =
     (a .free)
     (a .part)
     (c .once .result)
-    (c .before .before .before .before .before .byte-of .result)
-    (getD (a .lean .now) (a .row) 0)
-    (c .before .before .byte-of2 .result)
-    (getD (a .lean .now) (a .m + a .column) 0)
+    (c .before .before .before .before .before .byte-at-line .result)
+    (atLine (a .lean .now) (a .row))
+    (c .before .before .byte-at-line2 .result)
+    (atLine (a .lean .now) (a .m + a .column))
     (c .once .ensures)
-    (c .before .before .before .before .before .byte-of .ensures ∙ rw (c .before .before .before .before .before .before .wide .ensures .0))
-    (c .before .before .byte-of2 .ensures ∙ rw (c .before .before .before .before .wide2 .ensures .0, c .before .before .before .wide3 .ensures .0))
+    (c .before .before .before .before .before .byte-at-line .ensures ∙ rw (c .before .before .before .before .before .before .wide16 .ensures .0))
+    (c .before .before .byte-at-line2 .ensures ∙ rw (c .before .before .before .before .wide162 .ensures .0, c .before .before .before .wide163 .ensures .0))
     (c .before .if1 .taken)
 
 returns-2 : tie.Need-returns-2
 returns-2 c =
     let a = c .before .before .before .before .before .before .args in
-    stake-none (a .free) (a .part) (getD (a .lean .now) (a .row) 0) (getD (a .lean .now) (a .m + a .column) 0) (c .if1 .left)
+    stake-none (a .free) (a .part) (atLine (a .lean .now) (a .row)) (atLine (a .lean .now) (a .m + a .column)) (c .if1 .left)
 
 pub stake-by-spec : {M : Type 1} → statement M
 stake-by-spec =
     tie.close
     (tie.spec
-    wide-requires
-    byte-of-requires
-    wide-requires-2
-    wide-requires-3
-    add-byte-of
-    byte-of-requires-2
+    wide16-requires
+    byte-at-line-requires
+    wide16-requires-2
+    wide16-requires-3
+    add-byte-at-line
+    byte-at-line-requires-2
     once-requires
     returns
     returns-2)

@@ -7,14 +7,14 @@ use Rattle.weighing.proofs.Stores.{raise-twice}
 use Rattle.weighing.proofs.weights.weigh.Statement.{statement}
 use Rattle.weighing.proofs.weights.weigh.Tie as tie
 
-wide-requires : tie.Need-wide-requires
-wide-requires c κs = search needs
+wide16-requires : tie.Need-wide16-requires
+wide16-requires c κs = search needs
 
-wide-requires-2 : tie.Need-wide-requires-2
-wide-requires-2 c κs = search needs
+wide16-requires-2 : tie.Need-wide16-requires-2
+wide16-requires-2 c κs = search needs
 
-wide-requires-3 : tie.Need-wide-requires-3
-wide-requires-3 c κs = search needs
+wide16-requires-3 : tie.Need-wide16-requires-3
+wide16-requires-3 c κs = search needs
 
 add-second : tie.Need-add-second
 add-second c = search needs
@@ -37,12 +37,12 @@ returns c =
     (c .raise-if2 .last .0)
     (a .row)
     (a .m + a .column)
-    (c .before .before .before .before .before .before .before .wide .result)
-    (c .before .before .before .before .before .before .wide2 .result + c .before .before .before .before .before .wide3 .result)
+    (c .before .before .before .before .before .before .before .wide16 .result)
+    (c .before .before .before .before .before .before .wide162 .result + c .before .before .before .before .before .wide163 .result)
     (a .test)
     (c .before .both-of .result)
-    (c .before .before .before .before .before .before .before .wide .ensures .0)
-    (omega (arith, c .before .before .before .before .before .before .wide2 .ensures .0, c .before .before .before .before .before .wide3 .ensures .0))
+    (c .before .before .before .before .before .before .before .wide16 .ensures .0)
+    (omega (arith, c .before .before .before .before .before .before .wide162 .ensures .0, c .before .before .before .before .before .wide163 .ensures .0))
     (c .before .both-of .ensures)
     (c .before .before .before .raise-if .ensures)
     (c .raise-if2 .ensures)
@@ -51,9 +51,9 @@ pub weigh-spec : {M : Type 1} → statement M
 weigh-spec =
     tie.close
     (tie.spec
-    wide-requires
-    wide-requires-2
-    wide-requires-3
+    wide16-requires
+    wide16-requires-2
+    wide16-requires-3
     add-second
     raise-if-requires
     both-of-requires

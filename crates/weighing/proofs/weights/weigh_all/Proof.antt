@@ -7,6 +7,7 @@ use native.Mathlib.Omega.{arith}
 use lib.ListN.{getD}
 use Rattle.counting.specs.Tests.{_and_, pick, bit}
 use Rattle.counting.proofs.Joined.{bit-le-one, bit-small}
+use Rattle.model.specs.Limits.{lineRoom}
 use Rattle.model.specs.Pattern.{patternOf, on}
 use Rattle.model.specs.Bound.{untaken}
 use Rattle.weighing.specs.Cells.{markingIn, raised}
@@ -128,7 +129,7 @@ stored :
     (c : tie.After-weigh Inv-loop μ-loop) →
     let a = c .before .before .before .before .before .before .before .before .before .before .before .before .before .args in
     let l = c .before .before .before .before .before .before .before .before .before .loop in
-    (x : ℕ) → x < 512 →
+    (x : ℕ) → x < lineRoom →
     getD (c .weigh .last .0) x 0
     ≡ pick (on (patternOf (a .m) (a .n) (a .nonzeros) (a .list .now)) x (l .t) and untaken (patternOf (a .m) (a .n) (a .nonzeros) (a .list .now)) (markingIn (a .marks .now)) (l .t)) (raised (getD (l .weights) x 0)) (getD (l .weights) x 0)
 stored c x b =

@@ -9,8 +9,8 @@ use Rattle.writing.proofs.write.put_entry.Tie as tie
 row-of-requires : tie.Need-row-of-requires
 row-of-requires c κs = search needs
 
-long-requires : tie.Need-long-requires
-long-requires c κs = search needs
+long16-requires : tie.Need-long16-requires
+long16-requires c κs = search needs
 
 add-row : tie.Need-add-row
 add-row c = search needs
@@ -18,8 +18,8 @@ add-row c = search needs
 column-of-requires : tie.Need-column-of-requires
 column-of-requires c κs = search needs
 
-long-requires-2 : tie.Need-long-requires-2
-long-requires-2 c κs = search needs
+long16-requires-2 : tie.Need-long16-requires-2
+long16-requires-2 c κs = search needs
 
 add-column : tie.Need-add-column
 add-column c = search needs
@@ -30,8 +30,8 @@ wide16-requires c κs = search needs
 byte-at-requires : tie.Need-byte-at-requires
 byte-at-requires c κs = search needs
 
-long-requires-3 : tie.Need-long-requires-3
-long-requires-3 c κs = search needs
+long-requires : tie.Need-long-requires
+long-requires c κs = search needs
 
 add-part : tie.Need-add-part
 add-part c = search needs
@@ -43,21 +43,21 @@ same-length : tie.Need-same-length
 same-length c = search needs
 
 returns : tie.Need-returns
-returns c = puts-entry _ _ _ _ _ _ _ _ _ _ _ _ _ (c .before .before .before .before .before .before .before .before .before .before .row-of .ensures) (c .before .before .before .before .before .before .before .before .before .long .ensures .0) (c .before .before .before .before .before .before .before .before .column-of .ensures) (c .before .before .before .before .before .before .before .long2 .ensures .0) (c .before .before .before .before .before .before .wide16 .ensures .0) (c .before .before .before .before .before .byte-at .ensures) (c .before .before .before .before .long3 .ensures .0) (c .before .before .put-sizes .ensures) refl refl refl
+returns c = puts-entry _ _ _ _ _ _ _ _ _ _ _ _ _ (c .before .before .before .before .before .before .before .before .before .before .row-of .ensures) (c .before .before .before .before .before .before .before .before .before .long16 .ensures .0) (c .before .before .before .before .before .before .before .before .column-of .ensures) (c .before .before .before .before .before .before .before .long162 .ensures .0) (c .before .before .before .before .before .before .wide16 .ensures .0) (c .before .before .before .before .before .byte-at .ensures) (c .before .before .before .before .long .ensures .0) (c .before .before .put-sizes .ensures) refl refl refl
 
 pub put-entry-spec : {M : Type 1} → statement M
 put-entry-spec =
     tie.close
     (tie.spec
     row-of-requires
-    long-requires
+    long16-requires
     add-row
     column-of-requires
-    long-requires-2
+    long16-requires-2
     add-column
     wide16-requires
     byte-at-requires
-    long-requires-3
+    long-requires
     add-part
     put-sizes-requires
     same-length
