@@ -126,7 +126,7 @@ impl Trail {
         one_at(first, &self.marks, top(self.len))
     }
 
-    // Without the marks cut at its end.
+    // Without the marks cut at its end. They are dropped in place, as each `drop` would copy the trail.
     fn without_cuts(mut self) -> Trail
         ensures { λ r. ⌜ r ≡ uncut (self .len) self ⌝ }
     {
@@ -138,7 +138,7 @@ impl Trail {
         self
     }
 
-    // With its last mark advanced, where that is not cut.
+    // With its last mark advanced, where that is not cut; in place likewise.
     fn advance_last(mut self, first: bool) -> Trail
         ensures { λ r. ⌜ r ≡ lastAdvanced first self ⌝ }
     {
