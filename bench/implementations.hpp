@@ -14,8 +14,6 @@ extern "C" bipartition_function gulzoreno_bipartition;
 struct Implementation {
     std::string name;
     bipartition_function* function;
-    uint64_t most_side = baseline::most_side;          // of the patterns that it takes
-    uint64_t most_nonzeros = baseline::most_nonzeros;
 };
 
 inline std::vector<Implementation> implementations() {

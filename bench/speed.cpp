@@ -9,7 +9,7 @@
 // fifth of a second; opening and showing are part of its time.
 //
 // Compiled with -DBEFORE_LIBRARY and linked with an earlier library, it measures
-// that as well, on the patterns that it takes.
+// that as well.
 #include "baseline/text.hpp"
 #include "implementations.hpp"
 #include "random.hpp"
@@ -61,11 +61,6 @@ std::vector<Implementation> all_implementations() {
     all.push_back(before());
 #endif
     return all;
-}
-
-bool takes(const Implementation& one, const Subject& subject) {
-    return std::max(subject.rows, subject.columns) <= one.most_side &&
-           subject.nonzeros() <= one.most_nonzeros;
 }
 
 // One call; without a split the whole budget was spent.
@@ -171,28 +166,33 @@ std::string outcome(const Measure& measure) {
 
 // ---- tables
 
-// One row for each implementation; ratios to the first, plain.
+void print_row(const Subject& subject, const Implementation& one, const Measure& found,
+               double plain_rate, double incremental_rate) {
+    std::printf("| %s | %llu | %llu | %s | %s | %llu | %.0f | %.0f (%.0f) | %.1f | %.3f | %ld |\n",
+                subject.name.c_str(), (unsigned long long)subject.nonzeros(),
+                (unsigned long long)subject.cap, one.name.c_str(), outcome(found).c_str(),
+                (unsigned long long)found.tries, found.rate(), found.nanoseconds(),
+                found.slowest_nanoseconds(), found.rate() / plain_rate,
+                found.rate() / incremental_rate, found.kilobytes);
+}
+
+// One row for each implementation; ratios to the first two, plain and incremental.
 void print_subject(const Subject& subject, uint64_t budget) {
-    double plain_rate = 0;
-    for (const Implementation& one : all_implementations()) {
-        if (!takes(one, subject)) continue;
-        Measure found = measured(one.function, subject, budget);
-        if (plain_rate == 0) plain_rate = found.rate();
-        std::printf("| %s | %llu | %llu | %s | %s | %llu | %.0f | %.0f (%.0f) | %.1f | %ld |\n",
-                    subject.name.c_str(), (unsigned long long)subject.nonzeros(),
-                    (unsigned long long)subject.cap, one.name.c_str(), outcome(found).c_str(),
-                    (unsigned long long)found.tries, found.rate(), found.nanoseconds(),
-                    found.slowest_nanoseconds(), found.rate() / plain_rate, found.kilobytes);
-    }
+    std::vector<Implementation> all = all_implementations();
+    std::vector<Measure> found;
+    for (const Implementation& one : all)
+        found.push_back(measured(one.function, subject, budget));
+    for (size_t at = 0; at < all.size(); ++at)
+        print_row(subject, all[at], found[at], found[0].rate(), found[1].rate());
 }
 
 void print_speed(const std::string& data, uint64_t budget) {
     std::printf("Speed, at 3 percent, one call with a budget of %llu\n\n",
                 (unsigned long long)budget);
     std::printf("| pattern | N | cap | implementation | result | tries | tries a second "
-                "| ns a try (slowest) | times plain | peak kB |\n"
-                "|---|---|---|---|---|---|---|---|---|---|\n");
-    for (const char* name : {"karate", "chesapeake", "steam3"})
+                "| ns a try (slowest) | times plain | of incremental | peak kB |\n"
+                "|---|---|---|---|---|---|---|---|---|---|---|\n");
+    for (const char* name : {"karate", "chesapeake", "steam3", "cage5"})
         print_subject(matrix(data, name), budget);
     print_subject(random_subject(30, 30, 200, 1), budget);
     print_subject(random_subject(100, 100, 1500, 1), budget);
@@ -204,10 +204,7 @@ void print_growth_row(uint64_t side, uint64_t nonzeros, uint64_t budget) {
     std::printf("| %llu by %llu | %llu |", (unsigned long long)side, (unsigned long long)side,
                 (unsigned long long)nonzeros);
     for (const Implementation& one : all_implementations())
-        if (takes(one, subject))
-            std::printf(" %.0f |", measured(one.function, subject, budget).nanoseconds());
-        else
-            std::printf(" |");
+        std::printf(" %.0f |", measured(one.function, subject, budget).nanoseconds());
     std::printf("\n");
 }
 

@@ -16,7 +16,7 @@ use Rattle.trail.specs.Trail.{markRoom}
 use Rattle.model.specs.Limits.{lineRoom}
 use Rattle.model.specs.declared.Verdict.the-variants.{Accepted}
 use Rattle.model.specs.declared.Caps.{Caps}
-use Rattle.model.specs.Pattern.{Pattern, patternOf, lines, rowIn, columnIn, columnLine}
+use Rattle.model.specs.Pattern.{Pattern, patternOf, lines, rowIn, columnIn}
 use Rattle.model.specs.Marking.{Marking, place, marking, valid}
 use Rattle.model.specs.Bound.{bound}
 use Rattle.model.specs.State.{arrayOf}
@@ -34,7 +34,7 @@ use Rattle.marking.proofs.Marked.{mark-by-is}
 use Rattle.weighing.specs.declared.taking.Taken.{Taken}
 use Rattle.weighing.specs.declared.leaning.Kinds.{Kinds}
 use Rattle.weighing.specs.Cells.{markingIn, Cleared}
-use Rattle.weighing.specs.Taking.{Roomy, TakesOpen, validBy}
+use Rattle.weighing.specs.Taking.{TakesAll, validBy}
 use Rattle.weighing.specs.Leaning.{conditionIn, LeansAll}
 use Rattle.weighing.proofs.Stores.{at-line}
 use Rattle.weighing.proofs.Taken.{valid-by}
@@ -46,11 +46,6 @@ use Rattle.bound.specs.Evaluated.{Listed, Placed, TakenOn, LeansAt, Lowe
 -- there is room for every line of an accepted list
 pub listed-few : {m n nonzeros : ℕ} {list starts : List ℕ} → Listed m n nonzeros list starts → m + n ≤ lineRoom
 listed-few k = omega (arith, k .rows-small, k .columns-small)
-
-pub listed-roomy :
-    {m n nonzeros : ℕ} {list starts : List ℕ} → Listed m n nonzeros list starts → Roomy (patternOf m n nonzeros list)
-unfolding patternOf columnLine
-listed-roomy k t b = omega (arith, k .inside .column-in t b, listed-few k)
 
 -- the bound of a valid marking
 pub bound-sum :
@@ -69,7 +64,7 @@ sum-first cut torn x y r h e = omega (arith, max-eq-left h)
 -- a marking that is not valid has no bound
 pub not-valid :
     (P : Pattern) (caps : Caps) (μ : Marking) (t : Taken) (zero₀ one₀ zero₁ one₁ : List ℕ) (r : Evaluation) →
-    TakesOpen P μ t zero₀ one₀ zero₁ one₁ → validBy t caps ≡ false →
+    TakesAll P μ t zero₀ one₀ zero₁ one₁ → validBy t caps ≡ false →
     r .valid ≡ false → r .zero ≡ t .zero → r .one ≡ t .one → NoBound r → Evaluates P caps μ r
 not-valid P caps μ t zero₀ one₀ zero₁ one₁ r k v e z o none =
     record {
@@ -85,7 +80,7 @@ not-valid P caps μ t zero₀ one₀ zero₁ one₁ r k v e z o none =
       none = λ h. none;
     }
 
-module _ (m n nonzeros : ℕ) (list marks : List ℕ) {t : Taken} {by-zero by-one : List ℕ} (few : m + n ≤ lineRoom) (roomy : Roomy (patternOf m n nonzeros list)) (k : TakenOn (patternOf m n nonzeros list) (markingIn marks) t by-zero by-one) {s : Kinds} {lean₀ lean₁ : List ℕ} (h : LeansAll (conditionIn marks by-zero by-one) (within (m + n)) s lean₀ lean₁) where
+module _ (m n nonzeros : ℕ) (list marks : List ℕ) {t : Taken} {by-zero by-one : List ℕ} (few : m + n ≤ lineRoom) (k : TakenOn (patternOf m n nonzeros list) (markingIn marks) t by-zero by-one) {s : Kinds} {lean₀ lean₁ : List ℕ} (h : LeansAll (conditionIn marks by-zero by-one) (within (m + n)) s lean₀ lean₁) where
   lines-few : lines (patternOf m n nonzeros list) ≤ lineRoom
   lines-few = omega (arith, lines-of m n nonzeros list)
 
@@ -98,7 +93,7 @@ module _ (m n nonzeros : ℕ) (list marks : List ℕ) {t : Taken} {by-zero by-on
 
   -- how lines lean, by the array
   pub leans-at : LeansAt (patternOf m n nonzeros list) (markingIn marks) lean₁
-  leans-at = lean-leans marks (k .zero-clear) (k .one-clear) (k .takes-all) roomy lines-few lean-all
+  leans-at = lean-leans marks (k .zero-clear) (k .one-clear) (k .takes-all) lines-few lean-all
 
   -- the parts of the evaluation
   pub parts-are :
@@ -111,8 +106,8 @@ module _ (m n nonzeros : ℕ) (list marks : List ℕ) {t : Taken} {by-zero by-on
         valid-is = sym (valid-by caps (k .takes-all)) ∙ v;
         zero-is = k .takes-all .zero-is;
         one-is = k .takes-all .one-is;
-        cut-is = cut-is-L1 marks (k .zero-clear) (k .one-clear) (k .takes-all) roomy lines-few lean-all;
-        torn-is = torn-is-L2 marks (k .zero-clear) (k .one-clear) (k .takes-all) roomy lines-few lean-all;
+        cut-is = cut-is-L1 marks (k .zero-clear) (k .one-clear) (k .takes-all) lines-few lean-all;
+        torn-is = torn-is-L2 marks (k .zero-clear) (k .one-clear) (k .takes-all) lines-few lean-all;
         struck-is = low .struck-is
             caps
             (ez ∙ ap (λ (d : ℕ). caps .cap0 - d) (k .takes-all .zero-is))

@@ -99,7 +99,7 @@ module _ (m n nonzeros : ℕ) (list starts : List ℕ) (μ : Marking) (lean : Li
       }
 
   -- the matching: its size is L4
-  matched-are :
+  pub matched-are :
       (count : ℕ) (x : Matching) → count ≡ conflicts (patternOf m n nonzeros list) μ →
       x ≡ pick (eqb count 0) noMatching (matchingIn (ground lean m list starts)) →
       (x .size ≡ L4 (patternOf m n nonzeros list) μ) × (x .looks ≡ looks (patternOf m n nonzeros list) μ)

@@ -20,7 +20,7 @@ use Rattle.matching.specs.Starts.{sideRoom, rowStart}
 use Rattle.weighing.specs.declared.taking.Taken.{Taken}
 use Rattle.weighing.specs.declared.leaning.Kinds.{Kinds}
 use Rattle.weighing.specs.Cells.{Cleared}
-use Rattle.weighing.specs.Taking.{TakesOpen}
+use Rattle.weighing.specs.Taking.{TakesAll}
 use Rattle.bound.specs.declared.Evaluation.{Evaluation}
 use Rattle.bound.specs.declared.lower.Lower.{Lower}
 
@@ -63,7 +63,7 @@ pub record TakenOn (P : Pattern) (μ : Marking) (r : Taken) (by-zero by-one : Li
   pub one₀ : List ℕ
   pub zero-clear : Cleared zero₀
   pub one-clear : Cleared one₀
-  pub takes-all : TakesOpen P μ r zero₀ one₀ by-zero by-one
+  pub takes-all : TakesAll P μ r zero₀ one₀ by-zero by-one
 
 -- an array of how lines lean is that of a marking
 abbrev pub LeansAt : Pattern → Marking → List ℕ → Type 0

@@ -13,9 +13,9 @@ use pattern::splits::no_lines;
 use trail::MARK_ROOM;
 use weighing::leaning::Kinds;
 use weighing::leaning::lean_all;
-use weighing::rows::take_lines;
 use weighing::taking::Taken;
 use weighing::taking::is_valid;
+use weighing::taking::take_all;
 ghost use mathlib.Core.Bool.{true, false};
 ghost use mathlib.Core.List.{List};
 ghost use mathlib.Core.Path.{_≡_};
@@ -128,7 +128,7 @@ pub fn evaluate_lines(
 {
     let mut by_zero = no_lines();
     let mut by_one = no_lines();
-    let taken = take_lines(m, n, nonzeros, list, marks, &mut by_zero, &mut by_one);
+    let taken = take_all(m, n, nonzeros, list, marks, &mut by_zero, &mut by_one);
     if is_valid(taken, caps) {
         evaluate_valid(
             m,

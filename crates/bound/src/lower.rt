@@ -8,7 +8,6 @@ use weighing::striking::strike;
 use weighing::weights::weigh_lines;
 ghost use mathlib.Core.Path.{_≡_};
 ghost use Prim.Native.Nat.{_-_, _≤_};
-ghost use lib.Dec.{eqb};
 ghost use Rattle.counting.specs.Tests.{pick};
 ghost use Rattle.model.specs.Pattern.{patternOf};
 ghost use Rattle.weighing.specs.Cells.{markingIn};
@@ -30,18 +29,18 @@ pub(crate) fn room_of(cap: u64, taken: u16) -> u64
     if t < cap { cap - t } else { 0 }
 }
 
-// The matching of L4: without conflicts it is not searched.
-fn matched_of(
+// The matching of L4. Where there are no conflicts it is not searched.
+pub fn matched_of(
     m: u16,
     lean: &[u8; LINE_ROOM],
     list: &[u8],
     starts: &[u16; SIDE_ENDS],
-    conflicts: u16,
+    none: bool,
 ) -> Matching
-    ensures { λ r. ⌜ (r ≡ pick (eqb conflicts 0) noMatching (matchingIn (ground (now (lean .entry)) m (now (list .entry)) (now (starts .entry)))))
+    ensures { λ r. ⌜ (r ≡ pick none noMatching (matchingIn (ground (now (lean .entry)) m (now (list .entry)) (now (starts .entry)))))
         × (r .size ≤ 65535) ⌝ }
 {
-    if conflicts == 0 {
+    if none {
         return Matching { size: 0, looks: 0 };
     }
     matching_of(m, lean, list, starts)
@@ -70,7 +69,7 @@ pub(crate) fn lower_of(
     let conflicts = stakes.conflicts;
     let zero = strike(m, n, lean, &weights, 0, zero_stake, zero_room);
     let one = strike(m, n, lean, &weights, 1, one_stake, one_room);
-    let matching = matched_of(m, lean, list, starts, conflicts);
+    let matching = matched_of(m, lean, list, starts, conflicts == 0);
     Lower {
         struck: zero + one,
         matched: matching.size,

@@ -13,9 +13,9 @@ use borrow.Author.Tests.{lt-ltb, le-ltb, ne-eqb}
 use Rattle.counting.specs.Tests.{_or_, pick}
 use Rattle.counting.proofs.Joined.{no-way, or-eq, or-fails, pick-true}
 use Rattle.trail.specs.declared.Trail.{Trail}
-use Rattle.trail.specs.Trail.{markRoom, topOf, trailWith, withMark, appended, dropped, markOr, lastMark, replaced, replacedAt, isPart, givesPartIn, oneAt, mayBeOne, uncut, nextMark, lastAdvanced, advanced}
-use Rattle.trail.proofs.Methods.{top-suc, at-top, at-none, dropped-at, uncut-more, uncut-done}
-use Rattle.model.specs.Walk.{givesPart, oneAllowed, afterZero, advance}
+use Rattle.trail.specs.Trail.{markRoom, topOf, trailWith, withMark, appended, dropped, markOr, lastMark, replaced, replacedAt, isPart, givesPartIn, oneAt, mayBeOne}
+use Rattle.trail.proofs.Methods.{top-suc, at-top, at-none, dropped-at}
+use Rattle.model.specs.Walk.{givesPart, oneAllowed}
 use Rattle.model.specs.State.{stack, marksIn, arrayOf, trailOf}
 use Rattle.model.proofs.State.Arrays.{array-last, array-before, array-again, array-dropped, array-stack}
 use Rattle.model.proofs.Order.Mirrored.{stack-eq}
@@ -111,61 +111,3 @@ may-is first x τ b =
     (marks-before (arrayOf (x ∷ τ)) (length τ) (omega arith)
     ∙ stack-eq (λ i. getD (arrayOf (x ∷ τ)) i 0) (λ i. getD (arrayOf τ) i 0) (length τ) (array-before x τ)
     ∙ array-stack τ (omega arith))
-
-next-after : (b : Bool) → nextMark 0 b ≡ pick b 1 2
-unfolding nextMark pick
-next-after true = refl
-next-after false = refl
-
-next-cut : (b : Bool) → nextMark 1 b ≡ 2
-unfolding nextMark
-next-cut b = refl
-
--- mark 1 may come first or not
-module _ (first : Bool) where
-  -- the last mark, where it is not cut, becomes the next
-  last-advanced-is :
-      (x : ℕ) (τ : List ℕ) → length τ < markRoom →
-      lastAdvanced first (trailOf (x ∷ τ)) ≡ trailOf (nextMark x (oneAllowed first τ) ∷ τ)
-  unfolding lastAdvanced
-  last-advanced-is x τ b =
-      ap
-      (replaced (trailOf (x ∷ τ)))
-      (ap (λ (y : ℕ). nextMark y (mayBeOne first (trailOf (x ∷ τ)))) (last-is x 0 τ b)
-      ∙ ap (nextMark x) (may-is first x τ b))
-      ∙ replaced-is x (nextMark x (oneAllowed first τ)) τ b
-
-  -- a trail whose last mark is not cut has that advanced
-  advanced-last :
-      (x : ℕ) (τ : List ℕ) → length τ < markRoom → x ≤ 1 → advanced first (trailOf (x ∷ τ)) ≡ trailOf (nextMark x (oneAllowed first τ) ∷ τ)
-  unfolding advanced
-  advanced-last x τ b h =
-      ap (lastAdvanced first) (uncut-done (trailOf (x ∷ τ) .len) (trailOf (x ∷ τ)) (omega (arith, last-is x 0 τ b)))
-      ∙ last-advanced-is x τ b
-
-  -- a mark cut at the end goes
-  advanced-dropped :
-      (x : ℕ) (τ : List ℕ) → length τ < markRoom → advanced first (trailOf (suc (suc x) ∷ τ)) ≡ advanced first (trailOf τ)
-  unfolding advanced
-  advanced-dropped x τ b =
-      ap (lastAdvanced first) (uncut-more (trailOf (suc (suc x) ∷ τ)) (omega (arith, last-is (suc (suc x)) 0 τ b)))
-      ∙ ap (λ (t : Trail). lastAdvanced first (uncut (t .len) t)) (dropped-is (suc (suc x)) τ b)
-
-  -- an empty trail stays empty
-  advanced-none : advanced first (trailOf []) ≡ trailOf []
-  unfolding advanced lastAdvanced
-  advanced-none =
-      ap (lastAdvanced first) (uncut-done (trailOf [] .len) (trailOf []) (omega (arith, last-none 0)))
-      ∙ replaced-none (nextMark (lastMark (trailOf []) 0) (mayBeOne first (trailOf [])))
-
-  -- advance
-  pub advanced-is : (τ : List ℕ) → length τ ≤ markRoom → advanced first (trailOf τ) ≡ trailOf (advance first τ)
-  unfolding advance afterZero
-  advanced-is [] b = advanced-none
-  advanced-is (zero ∷ τ) b =
-      advanced-last 0 τ (omega arith) (omega arith)
-      ∙ ap (λ (y : ℕ). trailOf (y ∷ τ)) (next-after (oneAllowed first τ))
-  advanced-is (suc zero ∷ τ) b =
-      advanced-last 1 τ (omega arith) (omega arith)
-      ∙ ap (λ (y : ℕ). trailOf (y ∷ τ)) (next-cut (oneAllowed first τ))
-  advanced-is (suc (suc x) ∷ τ) b = advanced-dropped x τ (omega arith) ∙ advanced-is τ (omega arith)

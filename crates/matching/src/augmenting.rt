@@ -6,13 +6,18 @@ use model::limits::SIDE_ENDS;
 use model::limits::SIDE_ROOM;
 use pattern::reading::byte_at;
 use pattern::reading::column_of;
+use pattern::reading::less;
 use pattern::reading::long16;
+use pattern::reading::wide;
 use pattern::reading::wide16;
 use pattern::reading::word_at;
 ghost use mathlib.Core.Path.{_≡_};
 ghost use mathlib.Core.Bool.{not};
-ghost use Prim.Native.Nat.{_+_, _≤_, _<_};
+ghost use Prim.Native.Nat.{_+_, _-_, _≤_, _<_};
+ghost use lib.Dec.{ltb};
 ghost use lib.ListN.{length, getD};
+ghost use Rattle.counting.specs.Tests.{_and_};
+ghost use Rattle.model.specs.Limits.{lineRoom};
 ghost use Rattle.model.specs.Walk.{isEmpty};
 ghost use Rattle.matching.specs.Augmenting.{ground, sideRoom, different, atOdds, columnsIn, RowVisits, ColumnVisits, noColumns, Starts, matchingIn};
 
@@ -28,27 +33,39 @@ pub struct Matching {
     pub looks: u64,
 }
 
-// One leans to part 0 and the other to part 1.
+// One leans to part 0 and the other to part 1: no other numbers add up to 1.
 fn differ(a: u8, b: u8) -> bool
     ensures { λ r. ⌜ r ≡ different a b ⌝ }
 {
-    if a == 0 {
-        b == 1
-    } else {
-        if a == 1 { b == 0 } else { false }
-    }
+    wide(a) + wide(b) == 1
+}
+
+// How many columns after m rows the leanings have room for.
+fn columns_held(m: u16) -> usize
+    ensures { λ r. ⌜ (r ≤ sideRoom) × (r ≤ lineRoom - m) × (r < sideRoom → r ≡ lineRoom - m) ⌝ }
+{
+    let left = less(LINE_ROOM, wide16(m));
+    if left < SIDE_ROOM { left } else { SIDE_ROOM }
+}
+
+// A row and column j, which the leanings have no room for, are at odds: such a column has 0, but one past the last is passed over.
+fn at_odds_past(row: u8, j: usize) -> bool
+    ensures { λ r. ⌜ r ≡ ltb j sideRoom and different row 0 ⌝ }
+{
+    if j < SIDE_ROOM { differ(row, 0) } else { false }
 }
 
 // Row i and column j lean to different parts; a column past the last is passed over.
 fn at_odds(lean: &[u8; LINE_ROOM], m: u16, i: u16, j: u16) -> bool
     ensures { λ r. ⌜ r ≡ atOdds (now (lean .entry)) m i j ⌝ }
 {
-    if wide16(j) < SIDE_ROOM {
-        let row = byte_at(lean, wide16(i));
-        let column = byte_at(lean, wide16(m) + wide16(j));
-        return differ(row, column);
+    let row = byte_at(lean, wide16(i));
+    let column = wide16(j);
+    if column < columns_held(m) {
+        let line = wide16(m) + column;
+        return differ(row, lean[line]);
     }
-    false
+    at_odds_past(row, column)
 }
 
 // The number of the first nonzero of row i.

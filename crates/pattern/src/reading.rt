@@ -95,9 +95,12 @@ fn number_at(list: &[u8], at: usize) -> u16
     requires { ⌜ at < 4294967296 ⌝ }
     ensures { λ r. ⌜ r ≡ numberIn (now (list .entry)) at ⌝ }
 {
-    let low = byte_at(list, at);
-    let high = byte_at(list, at + 1);
-    number_of(low, high)
+    if at + 1 < list.len() {
+        let low = list[at];
+        let high = list[at + 1];
+        return number_of(low, high);
+    }
+    number_of(byte_at(list, at), 0)
 }
 
 // The row of nonzero t.

@@ -20,17 +20,8 @@ use Rattle.model.proofs.Walk.Reached.{For}
 use Rattle.model.proofs.Alike.Patterns.{Alike, alike-lists}
 use Rattle.model.proofs.Alike.Calls.{alike-ran, alike-shown-answer, alike-parts}
 use Rattle.model.proofs.Theorems.Checks.{then-first, then-second, refuse-not}
+use Rattle.running.proofs.Budgets.{state-sizes}
 use Rattle.search.specs.History.{Handed}
-
--- a state that is not refused has the list's sizes
-state-sizes :
-    (R : Rules) (m n nonzeros : ℕ) (r : Record) → stateFine R m n nonzeros r ≡ true →
-    (r .m ≡ m) × (r .n ≡ n) × (r .nonzeros ≡ nonzeros)
-unfolding stateFine
-state-sizes R m n nonzeros r h =
-    let three = and-left _ _ (and-left _ _ (and-left _ _ (and-left _ _ (and-left _ _ h)))) in
-    let two = and-left _ _ three in
-    (eqb-true (r .m) m (and-left _ _ two), eqb-true (r .n) n (and-right _ _ two), eqb-true (r .nonzeros) nonzeros (and-right _ _ three))
 
 module _ {m n nonzeros : ℕ} {list : List ℕ} (handed : Handed m n nonzeros list) (r : Record) (caps : Caps) (walks : For m n nonzeros caps r) where
   -- the checks of the list and of the state

@@ -1,10 +1,4 @@
 pub mod Openings
-pub mod Tries
-pub mod Runs
-pub mod TryLaws
-pub mod RunLaws
-pub mod Budgets
-pub mod Answered
 pub mod Handing
 pub mod Points
 pub mod RunTold

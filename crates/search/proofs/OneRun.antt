@@ -24,19 +24,23 @@ use Rattle.model.specs.Refusal.{refuse, _then_}
 use Rattle.model.specs.Pattern.{Pattern, patternOf}
 use Rattle.model.specs.Split.{partNumber}
 use Rattle.model.specs.Walk.{Record, rulesOf, walked}
-use Rattle.model.specs.State.{capsIn, recordOf, stateFine}
+use Rattle.model.specs.State.{capsIn, recordOf, searchOf, stateFine}
 use Rattle.model.specs.Calls.{listVerdict, openVerdict, runVerdict, showVerdict, openCall, ended, ranRecord, ranAfter, runCall, shownFrom, showCall, showParts}
 use Rattle.model.proofs.Theorems.Checks.{refuse-no, then-accepted, each-fine}
 use Rattle.model.proofs.Theorems.Accepted.{open-accepted}
 use Rattle.model.proofs.Theorems.OfList.{size-of}
 use Rattle.pattern.specs.Measures.{partVerdict, partsVerdict}
-use Rattle.search.specs.Running.{budgetBy}
+use Rattle.running.specs.Budget.{budgetBy}
 use Rattle.search.specs.History.{acceptedBudget, Handed, handedSlice, History, opened, ran, showed}
 use Rattle.search.specs.Demand.{Demand, ShowAnswered}
-use Rattle.search.proofs.Runs.{search-caps}
-use Rattle.search.proofs.Budgets.{budget-over, budget-taken}
+use Rattle.running.proofs.Budgets.{budget-over, budget-taken}
 use Rattle.search.proofs.Points.{walked-caps}
 use Rattle.search.proofs.Demand3.{ended-budget, opened-none, demand-3}
+
+-- the caps that the search of a record holds
+search-caps : (r : Record) → capsIn (searchOf r) ≡ r .caps
+unfolding searchOf
+search-caps r = refl
 
 -- a part's byte is 0 or 1
 part-byte : (byte : ℕ) (p : Part) → byte ≡ partNumber p → byte ≤ 1

@@ -1,18 +1,17 @@
 -- Laws of the trail's methods.
 -- Assumes nothing.
-use mathlib.Core.Bool.{Bool, true, false}
+use mathlib.Core.Bool.{true, false}
 use mathlib.Core.List.{List}
 use mathlib.Core.Path.{_≡_, refl, sym, _∙_, ap}
-use Prim.Native.Nat.{ℕ, zero, suc, _+_, _-_, _≤_, _<_}
+use Prim.Native.Nat.{ℕ, zero, suc, _+_, _-_, _<_}
 use native.Mathlib.Numerals.{add-one}
 use native.Mathlib.Omega.{arith}
 use lib.Dec.{ltb, eqb}
-use lib.ListN.{getD}
 use borrow.Author.Tests.{lt-ltb, le-ltb, ltb-true, eqb-true, eqb-false}
 use Rattle.counting.specs.Tests.{_or_, pick}
-use Rattle.counting.proofs.Joined.{no-way, clash, by-test, or-left, or-right, pick-true, pick-false}
+use Rattle.counting.proofs.Joined.{no-way, by-test, or-left, or-right, pick-true, pick-false}
 use Rattle.trail.specs.declared.Trail.{Trail}
-use Rattle.trail.specs.Trail.{markRoom, topOf, hasLast, withMark, dropped, droppedAt, markOr, lastMark, isPart, givesPartIn, uncut, nextMark}
+use Rattle.trail.specs.Trail.{markRoom, topOf, hasLast, withMark, dropped, droppedAt, markOr, isPart, givesPartIn}
 
 -- no mark before the first, and one mark more
 pub gives-none : (marks : List ℕ) → givesPartIn marks 0 ≡ false
@@ -33,24 +32,6 @@ gives-before marks i (suc d) b h =
     (eqb i d)
     (λ e. or-left (givesPartIn marks d) (ap (λ (j : ℕ). isPart (markOr 0 marks j)) (sym (eqb-true i d e)) ∙ h))
     (λ e. or-right (isPart (markOr 0 marks d)) (gives-before marks i d (omega (arith, eqb-false i d e)) h))
-
--- what a last mark becomes
-pub next-zero : (x : ℕ) (allowed : Bool) → x ≡ 0 → allowed ≡ true → nextMark x allowed ≡ 1
-unfolding nextMark
-next-zero zero true e h = refl
-next-zero zero false e h = clash h refl
-next-zero (suc x) allowed e h = no-way (omega arith)
-
-pub next-denied : (x : ℕ) (allowed : Bool) → allowed ≡ false → nextMark x allowed ≡ 2
-unfolding nextMark
-next-denied zero true h = clash refl h
-next-denied zero false h = refl
-next-denied (suc x) allowed h = refl
-
-pub next-other : (x : ℕ) (allowed : Bool) → (x ≡ 0 → ⊥) → nextMark x allowed ≡ 2
-unfolding nextMark
-next-other zero allowed h = absurd (h refl)
-next-other (suc x) allowed h = refl
 
 -- the last index of some marks
 pub top-suc : (d : ℕ) → topOf (suc d) ≡ d
@@ -100,39 +81,7 @@ dropped-at t d e b = at-top (λ (at : ℕ). withMark t at 0 at) t (t .len) d e b
 pub dropped-length : (t : Trail) (d : ℕ) → t .len ≡ suc d → d < markRoom → dropped t .len ≡ d
 dropped-length t d e b = ap (λ (x : Trail). x .len) (dropped-at t d e b)
 
-pub dropped-last : (t : Trail) → hasLast t ≡ true → dropped t ≡ withMark t (t .len - 1) 0 (t .len - 1)
-dropped-last t h =
-    let w = topped t h in
-    dropped-at t (t .len - 1) (omega (arith, w .long)) (omega (arith, w .long, w .inside))
-
 pub drops : (t : Trail) → hasLast t ≡ true → dropped t .len < t .len
 drops t h =
     let w = topped t h in
     omega (arith, w .long, dropped-length t (w .rest) (w .long) (w .inside))
-
--- a trail whose last mark is cut has one
-pub cut-last : (t : Trail) → 1 < lastMark t 0 → hasLast t ≡ true
-unfolding lastMark markOr hasLast
-cut-last t h =
-    by-test
-    (ltb (topOf (t .len)) markRoom)
-    (λ e. e)
-    (λ e. no-way (omega (arith, pick-false (getD (t .marks) (topOf (t .len)) 0) 0 e)))
-
-uncut-step : (d : ℕ) (t : Trail) → 1 < lastMark t 0 → uncut (suc d) t ≡ uncut d (dropped t)
-unfolding uncut
-uncut-step d t h = pick-true (uncut d (dropped t)) t (lt-ltb 1 (lastMark t 0) h)
-
--- a mark cut at the end goes
-pub uncut-more : (t : Trail) → 1 < lastMark t 0 → uncut (t .len) t ≡ uncut (dropped t .len) (dropped t)
-uncut-more t h =
-    let w = topped t (cut-last t h) in
-    ap (λ (d : ℕ). uncut d t) (w .long)
-    ∙ uncut-step (w .rest) t h
-    ∙ ap (λ (d : ℕ). uncut d (dropped t)) (sym (dropped-length t (w .rest) (w .long) (w .inside)))
-
--- with no mark cut at the end nothing goes
-pub uncut-done : (d : ℕ) (t : Trail) → lastMark t 0 ≤ 1 → uncut d t ≡ t
-unfolding uncut
-uncut-done zero t h = refl
-uncut-done (suc d) t h = pick-false (uncut d (dropped t)) t (le-ltb 1 (lastMark t 0) h)

@@ -72,22 +72,3 @@ oneAt first marks i = first or givesPartIn marks i
 -- mark 1 is allowed as the last mark
 unfoldable pub mayBeOne : Bool → Trail → Bool
 mayBeOne first t = oneAt first (t .marks) (topOf (t .len))
-
--- without the marks cut at its end, of so many
-unfoldable pub uncut : ℕ → Trail → Trail
-uncut zero t = t
-uncut (suc d) t = pick (ltb 1 (lastMark t 0)) (uncut d (dropped t)) t
-
--- the mark that a last mark becomes where it is not cut: 0 becomes 1 or cut, and 1 becomes cut
-unfoldable pub nextMark : ℕ → Bool → ℕ
-nextMark zero true = 1
-nextMark zero false = 2
-nextMark (suc x) allowed = 2
-
--- with its last mark advanced, where that is not cut
-unfoldable pub lastAdvanced : Bool → Trail → Trail
-lastAdvanced first t = replaced t (nextMark (lastMark t 0) (mayBeOne first t))
-
--- advanced
-unfoldable pub advanced : Bool → Trail → Trail
-advanced first t = lastAdvanced first (uncut (t .len) t)

@@ -1,6 +1,6 @@
-// The trail: a marking in the order of lines, as a stack of marks. Its methods append, drop and advance marks and hand it back.
+// A marking in the order of lines, as a stack of marks, one byte each: as a search holds it. Its methods append, drop and replace marks and hand it back.
 ghost use mathlib.Core.Path.{_≡_};
-ghost use Rattle.trail.specs.Trail.{topOf, hasLast, appended, dropped, replaced, lastMark, markOr, isPart, givesPartIn, oneAt, mayBeOne, nextMark, uncut, lastAdvanced, advanced};
+ghost use Rattle.trail.specs.Trail.{topOf, hasLast, appended, dropped, replaced, lastMark, markOr, isPart, givesPartIn, oneAt, mayBeOne};
 
 // Room for a mark of every line, of 300 rows and 300 columns.
 pub const MARK_ROOM: usize = 600;
@@ -54,18 +54,6 @@ fn one_at(first: bool, marks: &[u8; MARK_ROOM], i: usize) -> bool
         return true;
     }
     gives_part(marks, i)
-}
-
-// The mark that a last mark becomes where it is not cut.
-fn next_mark(mark: u8, allowed: bool) -> u8
-    ensures { λ r. ⌜ r ≡ nextMark mark allowed ⌝ }
-{
-    if mark == 0 {
-        if allowed {
-            return 1;
-        }
-    }
-    2
 }
 
 impl Trail {
@@ -124,38 +112,5 @@ impl Trail {
         ensures { λ r. ⌜ r ≡ mayBeOne first self ⌝ }
     {
         one_at(first, &self.marks, top(self.len))
-    }
-
-    // Without the marks cut at its end. They are dropped in place, as each `drop` would copy the trail.
-    fn without_cuts(mut self) -> Trail
-        ensures { λ r. ⌜ r ≡ uncut (self .len) self ⌝ }
-    {
-        while 1 < mark_at(&self.marks, top(self.len)) {
-            let at = self.len - 1;
-            self.marks[at] = 0;
-            self.len = at;
-        }
-        self
-    }
-
-    // With its last mark advanced, where that is not cut; in place likewise.
-    fn advance_last(mut self, first: bool) -> Trail
-        ensures { λ r. ⌜ r ≡ lastAdvanced first self ⌝ }
-    {
-        let at = top(self.len);
-        let mark = next_mark(mark_at(&self.marks, at), one_at(first, &self.marks, at));
-        if at < MARK_ROOM {
-            self.marks[at] = mark;
-        }
-        self
-    }
-
-    // Advanced: last mark 0 becomes 1 if that may come first or some earlier mark is 0 or 1, else cut; 1 becomes cut; cut is dropped and the
-    // mark before it advances.
-    pub fn advance(mut self, first: bool) -> Trail
-        ensures { λ r. ⌜ r ≡ advanced first self ⌝ }
-    {
-        self = self.without_cuts();
-        self.advance_last(first)
     }
 }

@@ -24,7 +24,7 @@ use Rattle.model.specs.Bound.{saysCut, saysTorn, saysLeaning, leans, L1, L2}
 use Rattle.weighing.specs.declared.taking.Taken.{Taken}
 use Rattle.weighing.specs.declared.leaning.Kinds.{Kinds}
 use Rattle.weighing.specs.Cells.{markingIn, Cleared}
-use Rattle.weighing.specs.Taking.{Roomy, TakesOpen}
+use Rattle.weighing.specs.Taking.{TakesAll}
 use Rattle.weighing.specs.Leaning.{leanNumber, conditionIn, LeansAll}
 use Rattle.weighing.proofs.Steps.{count-none-yet}
 
@@ -120,7 +120,7 @@ stored-test true x x₀ z e = ap not (ap (λ (y : ℕ). eqb y 0) e)
 stored-test false x x₀ z e = ap not (ap (λ (y : ℕ). eqb y 0) (e ∙ z))
 
 -- the condition depends on the two tests only at lines not marked 0 or 1
-condition-open :
+pub condition-open :
     (x : ℕ) (a b a′ b′ : Bool) → (2 ≤ x → a ≡ a′) → (2 ≤ x → b ≡ b′) → conditionFor x a b ≡ conditionFor x a′ b′
 unfolding conditionFor
 condition-open zero a b a′ b′ e f = refl
@@ -129,19 +129,17 @@ condition-open (suc (suc x)) a b a′ b′ e f =
     ap (λ (y : Bool). conditionFor (suc (suc x)) y b) (e (omega arith))
     ∙ ap (λ (y : Bool). conditionFor (suc (suc x)) a′ y) (f (omega arith))
 
-module _ (marks : List ℕ) {P : Pattern} {r : Taken} {zero₀ one₀ zero₁ one₁ : List ℕ} (clear₀ : Cleared zero₀) (clear₁ : Cleared one₀) (k : TakesOpen P (markingIn marks) r zero₀ one₀ zero₁ one₁) (roomy : Roomy P) where
+module _ (marks : List ℕ) {P : Pattern} {r : Taken} {zero₀ one₀ zero₁ one₁ : List ℕ} (clear₀ : Cleared zero₀) (clear₁ : Cleared one₀) (k : TakesAll P (markingIn marks) r zero₀ one₀ zero₁ one₁) where
   -- on arrays as the pass over the nonzeros leaves them, the condition is that of the marking
   pub condition-in : (l : ℕ) → l < lineRoom → conditionIn marks zero₁ one₁ l ≡ condition P (markingIn marks) l
   unfolding conditionIn condition
   condition-in l b =
-      condition-open
-      (markingIn marks l)
-      (not (eqb (getD zero₁ l 0) 0))
-      (not (eqb (getD one₁ l 0) 0))
-      (touched P (markingIn marks) Zero l)
-      (touched P (markingIn marks) One l)
-      (λ w. stored-test (touched P (markingIn marks) Zero l) (getD zero₁ l 0) (getD zero₀ l 0) (clear₀ l b) (k .by-zero roomy l b w))
-      (λ w. stored-test (touched P (markingIn marks) One l) (getD one₁ l 0) (getD one₀ l 0) (clear₁ l b) (k .by-one roomy l b w))
+      ap
+      (λ (zero : Bool). conditionFor (markingIn marks l) zero (not (eqb (getD one₁ l 0) 0)))
+      (stored-test (touched P (markingIn marks) Zero l) (getD zero₁ l 0) (getD zero₀ l 0) (clear₀ l b) (k .by-zero l b))
+      ∙ ap
+      (λ (one : Bool). conditionFor (markingIn marks l) (touched P (markingIn marks) Zero l) one)
+      (stored-test (touched P (markingIn marks) One l) (getD one₁ l 0) (getD one₀ l 0) (clear₁ l b) (k .by-one l b))
 
   module _ {s : Kinds} {lean₀ lean₁ : List ℕ} (small : lines P ≤ lineRoom) (h : LeansAll (conditionIn marks zero₁ one₁) (lines P) s lean₀ lean₁) where
     -- the cut lines are L1

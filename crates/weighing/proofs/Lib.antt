@@ -6,5 +6,3 @@ pub mod Leans
 pub mod Tally
 pub mod Struck
 pub mod Weighed
-pub mod Stretches
-pub mod ByStretches

@@ -38,7 +38,7 @@ left-stop zero x s room h = refl
 left-stop (suc k) x s room h = pick-true s (leftOf k x (s - x) room) (le-leb s room h)
 
 -- where s is above the room the first is struck
-strikes-first : (x : ℕ) (xs : List ℕ) (s room : ℕ) → room < s → strikes (x ∷ xs) s room ≡ suc (strikes xs (s - x) room)
+pub strikes-first : (x : ℕ) (xs : List ℕ) (s room : ℕ) → room < s → strikes (x ∷ xs) s room ≡ suc (strikes xs (s - x) room)
 unfolding strikes
 strikes-first x xs s room h = pick-false 0 (suc (strikes xs (s - x) room)) (lt-leb s room h)
 
@@ -230,7 +230,7 @@ heavy-none P μ p most x few b =
     (λ l c. and-fails-right (leans P μ p l) (ne-eqb (untakenOn P μ l) x (λ e. no-way (omega (arith, few l c)))))
 
 -- weights above both of two tops that no line has: either top will do
-falling-either :
+pub falling-either :
     (h : ℕ → ℕ) (a b : ℕ) → ((x : ℕ) → a < x → h x ≡ 0) → ((x : ℕ) → b < x → h x ≡ 0) → falling h a ≡ falling h b
 falling-either h a b above below =
     by-test

@@ -20,25 +20,17 @@ use Rattle.model.specs.Split.{partNumber}
 use Rattle.model.specs.Marking.{Marking, takes, taken, touched, valid}
 use Rattle.weighing.specs.declared.taking.Taken.{Taken}
 use Rattle.weighing.specs.Cells.{markingIn}
-use Rattle.weighing.specs.Taking.{TakesAll, TakesOpen, validBy}
+use Rattle.weighing.specs.Taking.{TakesAll, validBy}
 use Rattle.weighing.proofs.Steps.{count-none-yet, any-none-yet, pick-or}
 
-module _ (m n nonzeros : ℕ) (list marks : List ℕ) where
-  -- a nonzero is taken, by the bytes of its row and column
-  pub takes-code :
-      (p : Part) (t row column part : ℕ) (r : Bool) →
-      row ≡ rowIn list t → column ≡ columnIn list t → part ≡ partNumber p →
-      r ≡ eqb (markingIn marks row) part or eqb (markingIn marks (m + column)) part →
-      r ≡ takes (patternOf m n nonzeros list) (markingIn marks) p t
-  unfolding takes patternOf rowLine columnLine
-  takes-code p t row column part r a b k e = e ∙ rw (a, b, k)
-
-  -- and it lies on a line
-  pub on-code :
-      (l t row column : ℕ) → row ≡ rowIn list t → column ≡ columnIn list t →
-      eqb l row or eqb l (m + column) ≡ on (patternOf m n nonzeros list) l t
-  unfolding on patternOf rowLine columnLine
-  on-code l t row column a b = rw (a, b)
+-- a nonzero is taken, by the bytes of its row and column
+pub takes-code :
+    (m n nonzeros : ℕ) (list marks : List ℕ) (p : Part) (t row column part : ℕ) (r : Bool) →
+    row ≡ rowIn list t → column ≡ columnIn list t → part ≡ partNumber p →
+    r ≡ eqb (markingIn marks row) part or eqb (markingIn marks (m + column)) part →
+    r ≡ takes (patternOf m n nonzeros list) (markingIn marks) p t
+unfolding takes patternOf rowLine columnLine
+takes-code m n nonzeros list marks p t row column part r a b k e = e ∙ rw (a, b, k)
 
 -- what a pass over the first t nonzeros has found, and what it made of the arrays
 pub record TakenTo (P : Pattern) (μ : Marking) (t zero one : ℕ) (both : Bool) (zero₀ one₀ zero₁ one₁ : List ℕ) : Type 0 where
@@ -80,6 +72,26 @@ pub record TakenMore (P : Pattern) (μ : Marking) (t zero one zero′ one′ : �
   pub both-more : both′ ≡ both or (takes P μ Zero t and takes P μ One t)
   pub lines-zero : (l : ℕ) → l < lineRoom → getD z′ l 0 ≡ pick (on P l t and takes P μ Zero t) 1 (getD z l 0)
   pub lines-one : (l : ℕ) → l < lineRoom → getD o′ l 0 ≡ pick (on P l t and takes P μ One t) 1 (getD o l 0)
+
+-- what the calls on a nonzero answer is what it adds
+pub nonzero-adds :
+    (m n nonzeros : ℕ) (list marks : List ℕ) (t row column : ℕ) → row ≡ rowIn list t → column ≡ columnIn list t →
+    (first second both further both′ : Bool) (x y dx dy : ℕ) (z o z′ o′ : List ℕ) →
+    first ≡ eqb (markingIn marks row) 0 or eqb (markingIn marks (m + column)) 0 →
+    second ≡ eqb (markingIn marks row) 1 or eqb (markingIn marks (m + column)) 1 →
+    dx ≡ bit first → dy ≡ bit second → further ≡ first and second → both′ ≡ both or further →
+    ((l : ℕ) → l < lineRoom → getD z′ l 0 ≡ pick ((eqb l row or eqb l (m + column)) and first) 1 (getD z l 0)) →
+    ((l : ℕ) → l < lineRoom → getD o′ l 0 ≡ pick ((eqb l row or eqb l (m + column)) and second) 1 (getD o l 0)) →
+    TakenMore (patternOf m n nonzeros list) (markingIn marks) t x y (x + dx) (y + dy) both both′ z o z′ o′
+unfolding takes on patternOf rowLine columnLine
+nonzero-adds m n nonzeros list marks t row column a b first second both further both′ x y dx dy z o z′ o′ f g ex ey e h zs os =
+    record {
+      zero-more = ap (λ (r : ℕ). x + r) (ex ∙ rw (f, a, b));
+      one-more = ap (λ (r : ℕ). y + r) (ey ∙ rw (g, a, b));
+      both-more = h ∙ rw (e, f, g, a, b);
+      lines-zero = λ l small. zs l small ∙ rw (f, a, b);
+      lines-one = λ l small. os l small ∙ rw (g, a, b);
+    }
 
 -- one nonzero more
 pub taken-more :
@@ -127,7 +139,7 @@ one-small {P} {μ} {t} k = omega (arith, k .one-is, count-most (takes P μ One) 
 -- the test of validity, on what the pass answers, is validity
 pub valid-by :
     {P : Pattern} {μ : Marking} {r : Taken} {z₀ o₀ z o : List ℕ} (caps : Caps) →
-    TakesOpen P μ r z₀ o₀ z o → validBy r caps ≡ valid P caps μ
+    TakesAll P μ r z₀ o₀ z o → validBy r caps ≡ valid P caps μ
 unfolding validBy valid
 valid-by caps k = rw (k .zero-is, k .one-is, k .both-is)
 

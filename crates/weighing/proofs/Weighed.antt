@@ -2,16 +2,13 @@
 -- Assumes nothing.
 use mathlib.Core.Bool.{Bool, true, false, not}
 use mathlib.Core.List.{List}
-use mathlib.Core.Logic.{⊎-elim}
 use mathlib.Core.Path.{_≡_, sym, _∙_, ap}
 use Prim.Native.Nat.{ℕ, _+_, _≤_, _<_}
 use native.Mathlib.Omega.{arith}
-use borrow.Author.Tests.{ltb-true, eqb-true, eqb-false, eq-eqb, ne-eqb}
-use lib.Dec.{eqb, ltb}
+use lib.Dec.{eqb}
 use lib.ListN.{getD}
-use Rattle.counting.specs.Tests.{_and_, _or_, bit}
+use Rattle.counting.specs.Tests.{_and_, _or_, pick, bit}
 use Rattle.counting.specs.Sums.{count}
-use Rattle.counting.proofs.Joined.{by-test, both-ways, bit-false, and-intro, and-left, and-right, and-fails-left, and-fails-right, or-left, or-right, or-cases, or-fails, pick-false}
 use Rattle.counting.proofs.Counted.{count-most, count-eq, count-more}
 use Rattle.model.specs.Limits.{lineRoom}
 use Rattle.model.specs.declared.Part.{Part}
@@ -23,54 +20,10 @@ use Rattle.model.specs.Bound.{leans, untaken, untakenOn, atStake, conflict}
 use Rattle.model.specs.Matching.{conflicts}
 use Rattle.model.proofs.Split.Lines.{row-line-in, column-line-in}
 use Rattle.weighing.specs.declared.weights.Stakes.{Stakes}
-use Rattle.weighing.specs.Cells.{atLine, markingIn, Cleared}
+use Rattle.weighing.specs.Cells.{atLine, markingIn, raised, Cleared}
 use Rattle.weighing.specs.Weights.{leansIn, stakeIn, conflictIn, WeighsAll, WeighsMore}
 use Rattle.weighing.proofs.Steps.{count-none-yet}
 use Rattle.weighing.proofs.Stores.{at-line, raised-bit}
-
-module _ (m n nonzeros : ℕ) (list marks lean : List ℕ) (t row column : ℕ) (r : Bool) (a : row ≡ rowIn list t) (b : column ≡ columnIn list t) where
-  -- a nonzero is untaken, by the bytes of its row and column
-  pub untaken-code :
-      r
-      ≡ not
-      ((eqb (markingIn marks row) 0 or eqb (markingIn marks (m + column)) 0)
-      or (eqb (markingIn marks row) 1 or eqb (markingIn marks (m + column)) 1)) →
-      r ≡ untaken (patternOf m n nonzeros list) (markingIn marks) t
-  unfolding untaken takes patternOf rowLine columnLine
-  untaken-code e = e ∙ rw (a, b)
-
-  -- it is a conflict
-  pub conflict-code :
-      r
-      ≡ (eqb (atLine lean row) 0 and eqb (atLine lean (m + column)) 1)
-      or (eqb (atLine lean row) 1 and eqb (atLine lean (m + column)) 0) →
-      r ≡ conflictIn (patternOf m n nonzeros list) lean t
-  unfolding conflictIn patternOf rowLine columnLine
-  conflict-code e = e ∙ rw (a, b)
-
--- 0 and 1 alone add up to 1
-pub sum-one : (a b : ℕ) → eqb (a + b) 1 ≡ (eqb a 0 and eqb b 1) or (eqb a 1 and eqb b 0)
-sum-one a b =
-    both-ways
-    (eqb (a + b) 1)
-    ((eqb a 0 and eqb b 1) or (eqb a 1 and eqb b 0))
-    (λ e. by-test
-    (eqb a 0)
-    (λ z. or-left _ (and-intro z (eq-eqb b 1 (omega (arith, eqb-true (a + b) 1 e, eqb-true a 0 z)))))
-    (λ z. or-right _ (and-intro (eq-eqb a 1 (omega (arith, eqb-true (a + b) 1 e, eqb-false a 0 z))) (eq-eqb b 0 (omega (arith, eqb-true (a + b) 1 e, eqb-false a 0 z))))))
-    (λ e. ⊎-elim
-    (λ h. eq-eqb (a + b) 1 (omega (arith, eqb-true a 0 (and-left _ _ h), eqb-true b 1 (and-right (eqb a 0) _ h))))
-    (λ h. eq-eqb (a + b) 1 (omega (arith, eqb-true a 1 (and-left _ _ h), eqb-true b 0 (and-right (eqb a 1) _ h))))
-    (or-cases (eqb a 0 and eqb b 1) (eqb a 1 and eqb b 0) e))
-
--- what it adds to s of a part
-pub stake-code :
-    (m n nonzeros : ℕ) (list marks lean : List ℕ) (t row column part r : ℕ) (free : Bool) → row ≡ rowIn list t → column ≡ columnIn list t →
-    free ≡ untaken (patternOf m n nonzeros list) (markingIn marks) t →
-    r ≡ bit (free and (eqb (atLine lean row) part or eqb (atLine lean (m + column)) part)) →
-    r ≡ bit (untaken (patternOf m n nonzeros list) (markingIn marks) t and leansIn (patternOf m n nonzeros list) lean part t)
-unfolding leansIn patternOf rowLine columnLine
-stake-code m n nonzeros list marks lean t row column part r free a b f e = e ∙ rw (a, b, f)
 
 -- a nonzero is counted once even if both its lines lean
 pub counted-once :
@@ -93,6 +46,31 @@ module _ (free : Bool) (part : ℕ) where
   pub stake-none : (x y : ℕ) → free ≡ false → 0 ≡ bit (free and (eqb x part or eqb y part))
   unfolding _and_ bit
   stake-none x y f = rw f
+
+-- what the calls on a nonzero answer is what it adds
+pub nonzero-adds :
+    (m n nonzeros : ℕ) (list marks lean : List ℕ) (t row column : ℕ) → row ≡ rowIn list t → column ≡ columnIn list t →
+    (free conflict : Bool) (x y z first second further : ℕ) (weights weights′ : List ℕ) →
+    free
+    ≡ not
+    ((eqb (markingIn marks row) 0 or eqb (markingIn marks (m + column)) 0)
+    or (eqb (markingIn marks row) 1 or eqb (markingIn marks (m + column)) 1)) →
+    first ≡ bit (free and (eqb (atLine lean row) 0 or eqb (atLine lean (m + column)) 0)) →
+    second ≡ bit (free and (eqb (atLine lean row) 1 or eqb (atLine lean (m + column)) 1)) →
+    conflict
+    ≡ (eqb (atLine lean row) 0 and eqb (atLine lean (m + column)) 1)
+    or (eqb (atLine lean row) 1 and eqb (atLine lean (m + column)) 0) →
+    further ≡ bit conflict →
+    ((l : ℕ) → l < lineRoom → getD weights′ l 0 ≡ pick ((eqb l row or eqb l (m + column)) and free) (raised (getD weights l 0)) (getD weights l 0)) →
+    WeighsMore (patternOf m n nonzeros list) (markingIn marks) lean t x y z (x + first) (y + second) (z + further) weights weights′
+unfolding untaken takes leansIn conflictIn on patternOf rowLine columnLine
+nonzero-adds m n nonzeros list marks lean t row column a b free conflict x y z first second further weights weights′ f g h e k w =
+    record {
+      zero-more = ap (λ (r : ℕ). x + r) (g ∙ rw (f, a, b));
+      one-more = ap (λ (r : ℕ). y + r) (h ∙ rw (f, a, b));
+      conflicts-more = ap (λ (r : ℕ). z + r) (k ∙ rw (e, a, b));
+      stored = λ l small. w l small ∙ rw (f, a, b);
+    }
 
 -- what a pass over the first t nonzeros has found, and the weights that it left
 pub record WeighsTo (P : Pattern) (μ : Marking) (lean : List ℕ) (t zero one conflicts : ℕ) (weights : List ℕ) : Type 0 where
@@ -198,48 +176,3 @@ module _ (P : Pattern) (μ : Marking) (lean : List ℕ) (i : Inside P) (few : li
   pub conflicts-are : count (conflictIn P lean) (P .size) ≡ conflicts P μ
   unfolding conflicts
   conflicts-are = count-eq (conflictIn P lean) (conflict P μ) (P .size) conflict-is
-
--- a nonzero whose row is marked 0 or 1 is taken
-row-untaken :
-    (m n nonzeros : ℕ) (list : List ℕ) (μ : Marking) (t row : ℕ) → row ≡ rowIn list t → μ row < 2 →
-    untaken (patternOf m n nonzeros list) μ t ≡ false
-unfolding untaken takes patternOf rowLine columnLine
-row-untaken m n nonzeros list μ t row e h =
-    let b : μ (rowIn list t) < 2 = omega (arith, h, ap μ e) in
-    by-test
-    (eqb (μ (rowIn list t)) 0)
-    (λ y. ap not (or-left _ (or-left _ y)))
-    (λ f. ap not (or-right _ (or-left _ (eq-eqb (μ (rowIn list t)) 1 (omega (arith, b, eqb-false (μ (rowIn list t)) 0 f))))))
-
--- and no conflict where its row does not lean
-row-apart :
-    (m n nonzeros : ℕ) (list lean : List ℕ) (t row : ℕ) → row ≡ rowIn list t → 1 < atLine lean row →
-    conflictIn (patternOf m n nonzeros list) lean t ≡ false
-unfolding conflictIn patternOf rowLine columnLine
-row-apart m n nonzeros list lean t row e h =
-    let b : 1 < atLine lean (rowIn list t) = omega (arith, h, ap (atLine lean) e) in
-    or-fails
-    (and-fails-left _ (ne-eqb (atLine lean (rowIn list t)) 0 (λ f. omega (arith, b, f))))
-    (and-fails-left _ (ne-eqb (atLine lean (rowIn list t)) 1 (λ f. omega (arith, b, f))))
-
--- a taken nonzero adds a conflict or nothing
-pub taken-adds :
-    {P : Pattern} {μ : Marking} {lean : List ℕ} {t x y z z′ : ℕ} {weights : List ℕ} →
-    untaken P μ t ≡ false → z′ ≡ z + bit (conflictIn P lean t) → WeighsMore P μ lean t x y z x y z′ weights weights
-taken-adds {P} {μ} {lean} {t} {x} {y} {z} {z′} {weights} u e =
-    record {
-      zero-more = omega (arith, bit-false _ (and-fails-left (leansIn P lean 0 t) u));
-      one-more = omega (arith, bit-false _ (and-fails-left (leansIn P lean 1 t) u));
-      conflicts-more = e;
-      stored = λ l b. sym (pick-false _ _ (and-fails-right (on P l t) u));
-    }
-
--- a nonzero whose row is marked 0 or 1 and does not lean adds nothing
-pub idle-adds :
-    (m n nonzeros : ℕ) (list : List ℕ) (μ : Marking) (lean : List ℕ) (t row x y z : ℕ) (weights : List ℕ) → row ≡ rowIn list t →
-    ltb (μ row) 2 and ltb 1 (atLine lean row) ≡ true →
-    WeighsMore (patternOf m n nonzeros list) μ lean t x y z x y z weights weights
-idle-adds m n nonzeros list μ lean t row x y z weights e h =
-    taken-adds
-    (row-untaken m n nonzeros list μ t row e (ltb-true (μ row) 2 (and-left _ _ h)))
-    (omega (arith, bit-false _ (row-apart m n nonzeros list lean t row e (ltb-true 1 (atLine lean row) (and-right _ _ h)))))

@@ -3,4 +3,3 @@ pub mod Taking
 pub mod Leaning
 pub mod Striking
 pub mod Weights
-pub mod Rows

@@ -3,7 +3,7 @@
 use mathlib.Core.Bool.{Bool, not}
 use mathlib.Core.List.{List}
 use mathlib.Core.Path.{_≡_}
-use Prim.Native.Nat.{ℕ, _≤_, _<_}
+use Prim.Native.Nat.{ℕ, _<_}
 use lib.Dec.{leb}
 use lib.ListN.{getD}
 use Rattle.counting.specs.Tests.{_and_, pick}
@@ -11,7 +11,7 @@ use Rattle.counting.specs.Sums.{any}
 use Rattle.model.specs.Limits.{lineRoom}
 use Rattle.model.specs.declared.Part.the-variants.{Zero, One}
 use Rattle.model.specs.declared.Caps.{Caps}
-use Rattle.model.specs.Pattern.{Pattern, columnLine}
+use Rattle.model.specs.Pattern.{Pattern}
 use Rattle.model.specs.Marking.{Marking, takes, taken, touched}
 use Rattle.weighing.specs.declared.taking.Taken.{Taken}
 
@@ -22,18 +22,6 @@ pub record TakesAll (P : Pattern) (μ : Marking) (r : Taken) (zero₀ one₀ zer
   pub both-is : r .both ≡ any (λ t. takes P μ Zero t and takes P μ One t) (P .size)
   pub by-zero : (l : ℕ) → l < lineRoom → getD zero₁ l 0 ≡ pick (touched P μ Zero l) 1 (getD zero₀ l 0)
   pub by-one : (l : ℕ) → l < lineRoom → getD one₁ l 0 ≡ pick (touched P μ One l) 1 (getD one₀ l 0)
-
--- the column of every nonzero is a line that an array by line has room for
-abbrev pub Roomy : Pattern → Type 0
-Roomy P = (t : ℕ) → t < P .size → columnLine P t < lineRoom
-
--- what the pass row by row answers: as `TakesAll`, with the two arrays known only where there is room for every column, at lines that are not marked 0 or 1
-pub record TakesOpen (P : Pattern) (μ : Marking) (r : Taken) (zero₀ one₀ zero₁ one₁ : List ℕ) : Type 0 where
-  pub zero-is : r .zero ≡ taken P μ Zero
-  pub one-is : r .one ≡ taken P μ One
-  pub both-is : r .both ≡ any (λ t. takes P μ Zero t and takes P μ One t) (P .size)
-  pub by-zero : Roomy P → (l : ℕ) → l < lineRoom → 2 ≤ μ l → getD zero₁ l 0 ≡ pick (touched P μ Zero l) 1 (getD zero₀ l 0)
-  pub by-one : Roomy P → (l : ℕ) → l < lineRoom → 2 ≤ μ l → getD one₁ l 0 ≡ pick (touched P μ One l) 1 (getD one₀ l 0)
 
 -- valid, by what is taken
 unfoldable pub validBy : Taken → Caps → Bool

@@ -2,13 +2,21 @@
 use model::limits::LINE_ROOM;
 use pattern::reading::byte_or;
 use pattern::reading::put;
+use pattern::reading::wide16;
 ghost use mathlib.Core.Path.{_≡_};
 ghost use Prim.Native.Nat.{ℕ, _+_, _<_};
 ghost use lib.Dec.{eqb};
 ghost use lib.ListN.{getD, set};
 ghost use Rattle.model.specs.Limits.{lineRoom};
-ghost use Rattle.counting.specs.Tests.{_and_, _or_, pick};
+ghost use Rattle.counting.specs.Tests.{_and_, pick};
 ghost use Rattle.weighing.specs.Cells.{atLine, markingIn, raised};
+
+// The line of a column.
+pub(crate) fn column_line(m: u16, column: u16) -> usize
+    ensures { λ r. ⌜ r ≡ m + column ⌝ }
+{
+    wide16(m) + wide16(column)
+}
 
 // The byte of a line, folded into the array, so that there is no test for its end.
 pub(crate) fn byte_at_line(lines: &[u8; LINE_ROOM], line: usize) -> u8

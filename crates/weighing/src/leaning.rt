@@ -9,10 +9,8 @@ use model::Part;
 use model::limits::LINE_ROOM;
 use pattern::reading::wide16;
 use pattern::room::lines_of;
-ghost use mathlib.Core.Bool.{not};
 ghost use mathlib.Core.Path.{_≡_};
 ghost use Prim.Native.Nat.{_+_};
-ghost use lib.Dec.{eqb};
 ghost use Rattle.pattern.specs.Room.{within};
 ghost use Rattle.model.specs.Marking.{conditionFor};
 ghost use Rattle.model.specs.Bound.{saysCut, saysTorn};
@@ -25,25 +23,25 @@ pub struct Kinds {
 }
 
 // The condition of a line, from its mark and whether it has nonzeros taken by 0 and by 1.
-fn condition_of(mark: u8, by_zero: u8, by_one: u8) -> Condition
-    ensures { λ r. ⌜ r ≡ conditionFor mark (not (eqb «by_zero» 0)) (not (eqb «by_one» 0)) ⌝ }
+pub fn condition_of(mark: u8, by_zero: bool, by_one: bool) -> Condition
+    ensures { λ r. ⌜ r ≡ conditionFor mark «by_zero» «by_one» ⌝ }
 {
     match mark {
         0 => Condition::Marked(Mark::To(Part::Zero)),
         1 => Condition::Marked(Mark::To(Part::One)),
         2 => Condition::Marked(Mark::Cut),
         _ => {
-            if by_zero == 0 {
-                if by_one == 0 {
-                    Condition::Untouched
+            if by_zero {
+                if by_one {
+                    Condition::Torn
                 } else {
-                    Condition::Leaning(Part::One)
+                    Condition::Leaning(Part::Zero)
                 }
             } else {
-                if by_one == 0 {
-                    Condition::Leaning(Part::Zero)
+                if by_one {
+                    Condition::Leaning(Part::One)
                 } else {
-                    Condition::Torn
+                    Condition::Untouched
                 }
             }
         }
@@ -104,7 +102,7 @@ fn condition_at(
     let mark = line_mark(marks, line);
     let zero = byte_of(by_zero, line);
     let one = byte_of(by_one, line);
-    condition_of(mark, zero, one)
+    condition_of(mark, zero != 0, one != 0)
 }
 
 // How each line leans, as its number in an array; the numbers of cut and torn lines.

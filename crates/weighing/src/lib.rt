@@ -1,8 +1,6 @@
 // The parts of the bound that go over nonzeros and lines: what a marking takes, how lines lean, what is at stake and what is struck.
 pub mod cells;
 pub mod leaning;
-mod reading;
-pub mod rows;
 pub mod striking;
 pub mod taking;
 pub mod weights;

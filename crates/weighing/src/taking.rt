@@ -1,4 +1,5 @@
 // What a marking takes: one pass over the nonzeros.
+use crate::cells::column_line;
 use crate::cells::line_mark;
 use crate::cells::put_if;
 use counting::joining::bit_of;
@@ -32,7 +33,7 @@ pub fn takes_by(marks: &[u8; LINE_ROOM], m: u16, row: u16, column: u16, part: u8
     ensures { λ r. ⌜ r ≡ eqb (markingIn (now (marks .entry)) row) part or eqb (markingIn (now (marks .entry)) (m + column)) part ⌝ }
 {
     let at_row = line_mark(marks, wide16(row));
-    let at_column = line_mark(marks, wide16(m) + wide16(column));
+    let at_column = line_mark(marks, column_line(m, column));
     either_of(at_row == part, at_column == part)
 }
 
@@ -42,11 +43,11 @@ fn touch(lines: &mut [u8; LINE_ROOM], m: u16, row: u16, column: u16, test: bool)
         getD (now (lines .exit)) l 0 ≡ pick ((eqb l row or eqb l (m + column)) and test) 1 (getD (now (lines .entry)) l 0)) ⌝ }
 {
     put_if(lines, wide16(row), test, 1);
-    put_if(lines, wide16(m) + wide16(column), test, 1);
+    put_if(lines, column_line(m, column), test, 1);
 }
 
 // What a marking takes, with 1 set at each line that has a nonzero taken by 0, and by 1.
-pub(crate) fn take_all(
+pub fn take_all(
     m: u16,
     n: u16,
     nonzeros: u16,

@@ -1,10 +1,7 @@
 // What is at stake: the untaken nonzeros of leaning lines, of each line, and the conflicts, in one pass over the nonzeros.
 use crate::cells::byte_at_line;
-use crate::cells::line_mark;
+use crate::cells::column_line;
 use crate::cells::raise;
-use crate::reading::column_at;
-use crate::reading::is_full;
-use crate::reading::row_at;
 use crate::taking::takes_by;
 use counting::joining::bit_of;
 use counting::joining::both_of;
@@ -12,16 +9,15 @@ use counting::joining::either_of;
 use model::limits::LINE_ROOM;
 use pattern::reading::column_of;
 use pattern::reading::row_of;
-use pattern::reading::wide;
 use pattern::reading::wide16;
 ghost use mathlib.Core.Bool.{not};
 ghost use mathlib.Core.Path.{_≡_};
-ghost use Prim.Native.Nat.{ℕ, _+_, _*_, _≤_, _<_};
-ghost use lib.Dec.{eqb, ltb};
-ghost use lib.ListN.{getD, length};
+ghost use Prim.Native.Nat.{ℕ, _+_, _≤_, _<_};
+ghost use lib.Dec.{eqb};
+ghost use lib.ListN.{getD};
 ghost use Rattle.model.specs.Limits.{lineRoom};
 ghost use Rattle.counting.specs.Tests.{_and_, _or_, pick, bit};
-ghost use Rattle.model.specs.Pattern.{entryBytes, patternOf};
+ghost use Rattle.model.specs.Pattern.{patternOf};
 ghost use Rattle.weighing.specs.Cells.{atLine, markingIn, raised, Cleared};
 ghost use Rattle.weighing.specs.Weights.{WeighsAll, WeighsMore};
 
@@ -62,22 +58,25 @@ fn stake_by(lean: &[u8; LINE_ROOM], m: u16, row: u16, column: u16, part: u8, fre
     ensures { λ r. ⌜ r ≡ bit (free and (eqb (atLine (now (lean .entry)) row) part or eqb (atLine (now (lean .entry)) (m + column)) part)) ⌝ }
 {
     let at_row = byte_at_line(lean, wide16(row));
-    let at_column = byte_at_line(lean, wide16(m) + wide16(column));
+    let at_column = byte_at_line(lean, column_line(m, column));
     if free {
         return once(at_row == part, at_column == part);
     }
     0
 }
 
-// The row and the column of a nonzero lean to different parts: their numbers are 0 and 1, which no others add up to.
+// The row and the column of a nonzero lean to different parts.
 fn conflict_by(lean: &[u8; LINE_ROOM], m: u16, row: u16, column: u16) -> bool
     ensures { λ r. ⌜ r ≡
         (eqb (atLine (now (lean .entry)) row) 0 and eqb (atLine (now (lean .entry)) (m + column)) 1)
         or (eqb (atLine (now (lean .entry)) row) 1 and eqb (atLine (now (lean .entry)) (m + column)) 0) ⌝ }
 {
     let at_row = byte_at_line(lean, wide16(row));
-    let at_column = byte_at_line(lean, wide16(m) + wide16(column));
-    wide(at_row) + wide(at_column) == 1
+    let at_column = byte_at_line(lean, column_line(m, column));
+    either_of(
+        both_of(at_row == 0, at_column == 1),
+        both_of(at_row == 1, at_column == 0),
+    )
 }
 
 // One more at a line where a test passes.
@@ -96,56 +95,9 @@ fn weigh(weights: &mut [u16; LINE_ROOM], m: u16, row: u16, column: u16, test: bo
         getD (now (weights .exit)) l 0 ≡ pick ((eqb l row or eqb l (m + column)) and test) (raised (getD (now (weights .entry)) l 0)) (getD (now (weights .entry)) l 0)) ⌝ }
 {
     let first = wide16(row);
-    let second = wide16(m) + wide16(column);
+    let second = column_line(m, column);
     raise_if(weights, first, test);
     raise_if(weights, second, both_of(test, second != first));
-}
-
-// What is at stake, with each line's untaken nonzeros as its weight.
-fn weigh_all(
-    m: u16,
-    n: u16,
-    nonzeros: u16,
-    list: &[u8],
-    marks: &[u8; LINE_ROOM],
-    lean: &[u8; LINE_ROOM],
-    weights: &mut [u16; LINE_ROOM],
-) -> Stakes
-    ensures { λ r. ⌜ WeighsAll (patternOf m n nonzeros (now (list .entry))) (markingIn (now (marks .entry))) (now (lean .entry)) r (now (weights .exit)) ⌝ }
-{
-    clear(weights);
-    let mut zero: u16 = 0;
-    let mut one: u16 = 0;
-    let mut conflicts: u16 = 0;
-    let mut t: u16 = 0;
-    while t < nonzeros {
-        let row = row_of(list, t);
-        let column = column_of(list, t);
-        let free = untaken_by(marks, m, row, column);
-        let first = stake_by(lean, m, row, column, 0, free);
-        let second = stake_by(lean, m, row, column, 1, free);
-        let conflict = conflict_by(lean, m, row, column);
-        weigh(weights, m, row, column, free);
-        zero = zero + first;
-        one = one + second;
-        conflicts = conflicts + bit_of(conflict);
-        t = t + 1;
-    }
-    Stakes {
-        zero,
-        one,
-        conflicts,
-    }
-}
-
-// A row is marked 0 or 1 and does not lean, so its nonzeros are neither at stake nor conflicts.
-fn is_idle(marks: &[u8; LINE_ROOM], lean: &[u8; LINE_ROOM], row: u16) -> bool
-    ensures { λ r. ⌜ r ≡ ltb (markingIn (now (marks .entry)) row) 2 and ltb 1 (atLine (now (lean .entry)) row) ⌝ }
-{
-    let line = wide16(row);
-    let mark = line_mark(marks, line);
-    let leaning = byte_at_line(lean, line);
-    both_of(mark < 2, 1 < leaning)
 }
 
 // What is at stake with nonzero t, from what is at stake before it.
@@ -158,75 +110,25 @@ fn weigh_one(
     stakes: Stakes,
     weights: &mut [u16; LINE_ROOM],
 ) -> Stakes
-    requires { ⌜ (entryBytes * t + 3 < length (now list)) × (t < 65535) × (stakes .zero ≤ t) × (stakes .one ≤ t) × (stakes .conflicts ≤ t) ⌝ }
+    requires { ⌜ (t < 65535) × (stakes .zero ≤ t) × (stakes .one ≤ t) × (stakes .conflicts ≤ t) ⌝ }
     ensures { λ r. ⌜ ((n nonzeros : ℕ) → WeighsMore (patternOf m n nonzeros (now (list .entry))) (markingIn (now (marks .entry))) (now (lean .entry)) t
         (stakes .zero) (stakes .one) (stakes .conflicts) (r .zero) (r .one) (r .conflicts) (now (weights .entry)) (now (weights .exit))) ⌝ }
 {
-    let row = row_at(list, t);
-    if is_idle(marks, lean, row) {
-        return stakes;
-    }
-    let column = column_at(list, t);
-    let conflict = conflict_by(lean, m, row, column);
-    let zero = stakes.zero;
-    let one = stakes.one;
-    let conflicts = stakes.conflicts + bit_of(conflict);
+    let row = row_of(list, t);
+    let column = column_of(list, t);
     let free = untaken_by(marks, m, row, column);
-    if free {
-        let first = stake_by(lean, m, row, column, 0, true);
-        let second = stake_by(lean, m, row, column, 1, true);
-        weigh(weights, m, row, column, true);
-        return Stakes {
-            zero: zero + first,
-            one: one + second,
-            conflicts,
-        };
-    }
+    let first = stake_by(lean, m, row, column, 0, free);
+    let second = stake_by(lean, m, row, column, 1, free);
+    let conflict = conflict_by(lean, m, row, column);
+    weigh(weights, m, row, column, free);
     Stakes {
-        zero,
-        one,
-        conflicts,
+        zero: stakes.zero + first,
+        one: stakes.one + second,
+        conflicts: stakes.conflicts + bit_of(conflict),
     }
 }
 
-// What is at stake, with each line's untaken nonzeros as its weight, for a list that holds every nonzero.
-fn weigh_full(
-    m: u16,
-    n: u16,
-    nonzeros: u16,
-    list: &[u8],
-    marks: &[u8; LINE_ROOM],
-    lean: &[u8; LINE_ROOM],
-    weights: &mut [u16; LINE_ROOM],
-) -> Stakes
-    requires { ⌜ entryBytes * nonzeros ≤ length (now list) ⌝ }
-    ensures { λ r. ⌜ WeighsAll (patternOf m n nonzeros (now (list .entry))) (markingIn (now (marks .entry))) (now (lean .entry)) r (now (weights .exit)) ⌝ }
-{
-    clear(weights);
-    let mut zero: u16 = 0;
-    let mut one: u16 = 0;
-    let mut conflicts: u16 = 0;
-    let mut t: u16 = 0;
-    while t < nonzeros {
-        let stakes = Stakes {
-            zero,
-            one,
-            conflicts,
-        };
-        let next = weigh_one(m, list, marks, lean, t, stakes, weights);
-        zero = next.zero;
-        one = next.one;
-        conflicts = next.conflicts;
-        t = t + 1;
-    }
-    Stakes {
-        zero,
-        one,
-        conflicts,
-    }
-}
-
-// What is at stake, as `weigh_all` answers it, in the quickest way that the list allows.
+// What is at stake, with each line's untaken nonzeros as its weight.
 pub fn weigh_lines(
     m: u16,
     n: u16,
@@ -238,8 +140,16 @@ pub fn weigh_lines(
 ) -> Stakes
     ensures { λ r. ⌜ WeighsAll (patternOf m n nonzeros (now (list .entry))) (markingIn (now (marks .entry))) (now (lean .entry)) r (now (weights .exit)) ⌝ }
 {
-    if is_full(list, nonzeros) {
-        return weigh_full(m, n, nonzeros, list, marks, lean, weights);
+    clear(weights);
+    let mut stakes = Stakes {
+        zero: 0,
+        one: 0,
+        conflicts: 0,
+    };
+    let mut t: u16 = 0;
+    while t < nonzeros {
+        stakes = weigh_one(m, list, marks, lean, t, stakes, weights);
+        t = t + 1;
     }
-    weigh_all(m, n, nonzeros, list, marks, lean, weights)
+    stakes
 }

@@ -14,8 +14,8 @@ no-lines-requires c κs = search needs
 no-lines-requires-2 : tie.Need-no-lines-requires-2
 no-lines-requires-2 c κs = search needs
 
-take-lines-requires : tie.Need-take-lines-requires
-take-lines-requires c κs = search needs
+take-all-requires : tie.Need-take-all-requires
+take-all-requires c κs = search needs
 
 is-valid-requires : tie.Need-is-valid-requires
 is-valid-requires c κs = search needs
@@ -38,7 +38,7 @@ returns c = λ k.
       one₀ = e .no-lines2 .result;
       zero-clear = none-cleared _ (e .before .no-lines .ensures);
       one-clear = none-cleared _ (e .no-lines2 .ensures);
-      takes-all = t .take-lines .ensures;
+      takes-all = t .take-all .ensures;
     }
     (sym (v .before .is-valid .ensures) ∙ v .if1 .taken)
 
@@ -52,13 +52,13 @@ returns-2 c = λ k.
     (patternOf (a .m) (a .n) (a .nonzeros) (a .list .now))
     (a .caps)
     (markingIn (a .marks .now))
-    (t .take-lines .result)
+    (t .take-all .result)
     (e .before .no-lines .result)
     (e .no-lines2 .result)
-    (t .take-lines .last .1 .1 .1 .1 .1 .0)
-    (t .take-lines .last .1 .1 .1 .1 .1 .1 .0)
+    (t .take-all .last .1 .1 .1 .1 .1 .0)
+    (t .take-all .last .1 .1 .1 .1 .1 .1 .0)
     (c .invalid .result)
-    (t .take-lines .ensures)
+    (t .take-all .ensures)
     (sym (v .before .is-valid .ensures) ∙ v .if1 .left)
     (c .invalid .ensures .0)
     (c .invalid .ensures .1)
@@ -71,7 +71,7 @@ evaluate-lines-spec =
     (tie.spec
     no-lines-requires
     no-lines-requires-2
-    take-lines-requires
+    take-all-requires
     is-valid-requires
     evaluate-valid-requires
     invalid-requires

@@ -3,7 +3,7 @@
 use borrow.Author.Needs.{needs}
 use Rattle.model.specs.Pattern.{patternOf}
 use Rattle.weighing.specs.Cells.{markingIn}
-use Rattle.bound.proofs.Evaluations.{listed-few, listed-roomy, leans-at, parts-are}
+use Rattle.bound.proofs.Evaluations.{listed-few, leans-at, parts-are}
 use Rattle.bound.proofs.evaluating.evaluate_valid.Statement.{statement}
 use Rattle.bound.proofs.evaluating.evaluate_valid.Tie as tie
 
@@ -30,7 +30,7 @@ returns c = λ k t v.
     let a = c .before .before .before .before .before .before .before .before .before .args in
     let few = listed-few k in
     let leaning = c .before .before .before .before .before .lean-all .ensures in
-    let right = leans-at (a .m) (a .n) (a .nonzeros) (a .list .now) (a .marks .now) few (listed-roomy k) t leaning in
+    let right = leans-at (a .m) (a .n) (a .nonzeros) (a .list .now) (a .marks .now) few t leaning in
     c .joined .ensures
     (patternOf (a .m) (a .n) (a .nonzeros) (a .list .now))
     (a .caps)
@@ -42,7 +42,6 @@ returns c = λ k t v.
     (a .list .now)
     (a .marks .now)
     few
-    (listed-roomy k)
     t
     leaning
     (a .caps)

@@ -27,8 +27,8 @@ strike-requires-2 c κs = search needs
 matched-of-requires : tie.Need-matched-of-requires
 matched-of-requires c κs = search needs
 
-add-t22 : tie.Need-add-t22
-add-t22 c =
+add-t23 : tie.Need-add-t23
+add-t23 c =
     let a = c .before .before .before .before .before .before .before .before .before .args in
     let w = c .before .before .before .before .before .weigh-lines in
     let weights = w .last .1 .1 .1 .1 .1 .1 .0 in
@@ -84,5 +84,5 @@ lower-of-spec =
     strike-requires
     strike-requires-2
     matched-of-requires
-    add-t22
+    add-t23
     returns)

@@ -1,7 +1,6 @@
 -- `bound::lower::matched_of` meets its contract.
 -- Assumes nothing.
 use borrow.Author.Needs.{needs}
-use borrow.Author.Tests.{eq-eqb, ne-eqb}
 use mathlib.Core.Path.{sym, _∙_, ap}
 use native.Mathlib.Omega.{arith}
 use Rattle.counting.proofs.Joined.{pick-true, pick-false}
@@ -16,7 +15,7 @@ returns : tie.Need-returns
 returns c =
     let a = c .before .before .args in
     let G = ground (a .lean .now) (a .m) (a .list .now) (a .starts .now) in
-    (sym (pick-true noMatching (matchingIn G) (eq-eqb (a .conflicts) 0 (c .if1 .taken))), omega arith)
+    (sym (pick-true noMatching (matchingIn G) (c .if1 .taken)), omega arith)
 
 matching-of-requires : tie.Need-matching-of-requires
 matching-of-requires c κs = search needs
@@ -26,7 +25,7 @@ returns-2 c =
     let s = c .before .before .before in
     let a = s .args in
     let G = ground (a .lean .now) (a .m) (a .list .now) (a .starts .now) in (
-      c .matching-of .ensures ∙ sym (pick-false noMatching (matchingIn G) (ne-eqb (a .conflicts) 0 (c .before .if1 .left))),
+      c .matching-of .ensures ∙ sym (pick-false noMatching (matchingIn G) (c .before .if1 .left)),
       omega (arith, ap (λ (x : Matching). x .size) (c .matching-of .ensures), search-most G, s .fits),
     )
 

@@ -1,9 +1,7 @@
 -- `weighing::leaning::condition_of` meets its contract.
 -- Assumes nothing.
-use borrow.Author.Tests.{eq-eqb, ne-eqb}
-use mathlib.Core.Bool.{true, false, not}
-use mathlib.Core.Path.{sym, ap}
-use lib.Dec.{eqb}
+use mathlib.Core.Bool.{true, false}
+use mathlib.Core.Path.{sym}
 use Rattle.model.specs.Marking.{conditionFor}
 use Rattle.weighing.proofs.Conditions.{condition-free, unmarked-rest}
 use Rattle.weighing.proofs.leaning.condition_of.Statement.{statement}
@@ -25,61 +23,25 @@ returns-4 : tie.Need-returns-4
 unfolding conditionFor
 returns-4 c =
     let a = c .before .before .before .args in
-    sym
-    (condition-free
-    (a .mark)
-    (not (eqb (a .by-zero) 0))
-    (not (eqb (a .by-one) 0))
-    false
-    false
-    (unmarked-rest (a .mark) (c .before .before .match .rest .0 .0 .1) (c .before .before .match .rest .0 .1) (c .before .before .match .rest .1))
-    (ap not (eq-eqb (a .by-zero) 0 (c .before .if1 .taken)))
-    (ap not (eq-eqb (a .by-one) 0 (c .if2 .taken))))
+    sym (condition-free (a .mark) (a .by-zero) (a .by-one) true true (unmarked-rest (a .mark) (c .before .before .match .rest .0 .0 .1) (c .before .before .match .rest .0 .1) (c .before .before .match .rest .1)) (c .before .if1 .taken) (c .if2 .taken))
 
 returns-5 : tie.Need-returns-5
 unfolding conditionFor
 returns-5 c =
     let a = c .before .before .before .args in
-    sym
-    (condition-free
-    (a .mark)
-    (not (eqb (a .by-zero) 0))
-    (not (eqb (a .by-one) 0))
-    false
-    true
-    (unmarked-rest (a .mark) (c .before .before .match .rest .0 .0 .1) (c .before .before .match .rest .0 .1) (c .before .before .match .rest .1))
-    (ap not (eq-eqb (a .by-zero) 0 (c .before .if1 .taken)))
-    (ap not (ne-eqb (a .by-one) 0 (c .if2 .left))))
+    sym (condition-free (a .mark) (a .by-zero) (a .by-one) true false (unmarked-rest (a .mark) (c .before .before .match .rest .0 .0 .1) (c .before .before .match .rest .0 .1) (c .before .before .match .rest .1)) (c .before .if1 .taken) (c .if2 .left))
 
 returns-6 : tie.Need-returns-6
 unfolding conditionFor
 returns-6 c =
     let a = c .before .before .before .args in
-    sym
-    (condition-free
-    (a .mark)
-    (not (eqb (a .by-zero) 0))
-    (not (eqb (a .by-one) 0))
-    true
-    false
-    (unmarked-rest (a .mark) (c .before .before .match .rest .0 .0 .1) (c .before .before .match .rest .0 .1) (c .before .before .match .rest .1))
-    (ap not (ne-eqb (a .by-zero) 0 (c .before .if1 .left)))
-    (ap not (eq-eqb (a .by-one) 0 (c .if3 .taken))))
+    sym (condition-free (a .mark) (a .by-zero) (a .by-one) false true (unmarked-rest (a .mark) (c .before .before .match .rest .0 .0 .1) (c .before .before .match .rest .0 .1) (c .before .before .match .rest .1)) (c .before .if1 .left) (c .if3 .taken))
 
 returns-7 : tie.Need-returns-7
 unfolding conditionFor
 returns-7 c =
     let a = c .before .before .before .args in
-    sym
-    (condition-free
-    (a .mark)
-    (not (eqb (a .by-zero) 0))
-    (not (eqb (a .by-one) 0))
-    true
-    true
-    (unmarked-rest (a .mark) (c .before .before .match .rest .0 .0 .1) (c .before .before .match .rest .0 .1) (c .before .before .match .rest .1))
-    (ap not (ne-eqb (a .by-zero) 0 (c .before .if1 .left)))
-    (ap not (ne-eqb (a .by-one) 0 (c .if3 .left))))
+    sym (condition-free (a .mark) (a .by-zero) (a .by-one) false false (unmarked-rest (a .mark) (c .before .before .match .rest .0 .0 .1) (c .before .before .match .rest .0 .1) (c .before .before .match .rest .1)) (c .before .if1 .left) (c .if3 .left))
 
 pub condition-of-spec : {M : Type 1} → statement M
 condition-of-spec =

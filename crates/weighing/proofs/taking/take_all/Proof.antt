@@ -1,19 +1,12 @@
 -- `weighing::taking::take_all` meets its contract. The invariant: the counts, the test and the arrays are those of the nonzeros passed.
 -- Assumes nothing.
 use borrow.Author.Needs.{needs}
-use mathlib.Core.Path.{_≡_, refl}
-use Prim.Native.Nat.{ℕ, _-_, _≤_, _<_}
+use Prim.Native.Nat.{_-_, _≤_}
 use native.Mathlib.Omega.{arith}
-use lib.ListN.{getD}
-use Rattle.counting.specs.Tests.{_and_, pick}
 use Rattle.counting.proofs.Joined.{bit-le-one}
-use Rattle.model.specs.Limits.{lineRoom}
-use Rattle.model.specs.declared.Part.the-variants.{Zero, One}
-use Rattle.model.specs.Pattern.{patternOf, on}
-use Rattle.model.specs.Marking.{takes}
+use Rattle.model.specs.Pattern.{patternOf}
 use Rattle.weighing.specs.Cells.{markingIn}
-use Rattle.weighing.proofs.Steps.{pick-named, bit-named, both-named}
-use Rattle.weighing.proofs.Taken.{takes-code, on-code, TakenTo, taken-start, taken-more, taken-end, zero-small, one-small}
+use Rattle.weighing.proofs.Taken.{TakenTo, taken-start, nonzero-adds, taken-more, taken-end, zero-small, one-small}
 use Rattle.weighing.proofs.taking.take_all.Statement.{statement}
 use Rattle.weighing.proofs.taking.take_all.Tie as tie
 
@@ -24,54 +17,6 @@ Inv-loop m n nonzeros list marks by-zero₀ by-one₀ zero₀ one₀ both₀ t�
 
 abbrev μ-loop : tie.MeasureT-loop
 μ-loop m n nonzeros list marks by-zero₀ by-one₀ zero₀ one₀ both₀ t₀ by-zero by-one zero one both t = nonzeros - t
-
--- the nonzero is taken by 0, and by 1
-first-is :
-    (c : tie.After-takes-by2 Inv-loop μ-loop) →
-    let a = c .before .before .before .before .before .before .before .args in
-    c .before .takes-by .result
-    ≡ takes (patternOf (a .m) (a .n) (a .nonzeros) (a .list .now)) (markingIn (a .marks .now)) Zero (c .before .before .before .before .before .loop .t)
-first-is c =
-    takes-code _ _ _ _ _ Zero _ _ _ 0 _ (c .before .before .before .row-of .ensures) (c .before .before .column-of .ensures) refl (c .before .takes-by .ensures)
-
-second-is :
-    (c : tie.After-takes-by2 Inv-loop μ-loop) →
-    let a = c .before .before .before .before .before .before .before .args in
-    c .takes-by2 .result
-    ≡ takes (patternOf (a .m) (a .n) (a .nonzeros) (a .list .now)) (markingIn (a .marks .now)) One (c .before .before .before .before .before .loop .t)
-second-is c =
-    takes-code _ _ _ _ _ One _ _ _ 1 _ (c .before .before .before .row-of .ensures) (c .before .before .column-of .ensures) refl (c .takes-by2 .ensures)
-
--- and sets 1 at its lines
-lines-zero :
-    (c : tie.After-touch2 Inv-loop μ-loop) →
-    let a = c .before .before .before .before .before .before .before .before .before .before .before .args in
-    let turn = c .before .before .before .before .before .before .before .before .before .loop in
-    (l : ℕ) → l < lineRoom →
-    getD (c .before .before .touch .last .0) l 0
-    ≡ pick (on (patternOf (a .m) (a .n) (a .nonzeros) (a .list .now)) l (turn .t) and takes (patternOf (a .m) (a .n) (a .nonzeros) (a .list .now)) (markingIn (a .marks .now)) Zero (turn .t)) 1 (getD (turn .by-zero) l 0)
-lines-zero c l b =
-    let a = c .before .before .before .before .before .before .before .before .before .before .before .args in
-    let turn = c .before .before .before .before .before .before .before .before .before .loop in
-    pick-named _ _ _ _ _ _
-    (c .before .before .touch .ensures l b)
-    (on-code _ _ _ _ (a .marks .now) l _ _ _ (c .before .before .before .before .before .before .before .row-of .ensures) (c .before .before .before .before .before .before .column-of .ensures))
-    (first-is (c .before .before .before .before))
-
-lines-one :
-    (c : tie.After-touch2 Inv-loop μ-loop) →
-    let a = c .before .before .before .before .before .before .before .before .before .before .before .args in
-    let turn = c .before .before .before .before .before .before .before .before .before .loop in
-    (l : ℕ) → l < lineRoom →
-    getD (c .touch2 .last .0) l 0
-    ≡ pick (on (patternOf (a .m) (a .n) (a .nonzeros) (a .list .now)) l (turn .t) and takes (patternOf (a .m) (a .n) (a .nonzeros) (a .list .now)) (markingIn (a .marks .now)) One (turn .t)) 1 (getD (turn .by-one) l 0)
-lines-one c l b =
-    let a = c .before .before .before .before .before .before .before .before .before .before .before .args in
-    let turn = c .before .before .before .before .before .before .before .before .before .loop in
-    pick-named _ _ _ _ _ _
-    (c .touch2 .ensures l b)
-    (on-code _ _ _ _ (a .marks .now) l _ _ _ (c .before .before .before .before .before .before .before .row-of .ensures) (c .before .before .before .before .before .before .column-of .ensures))
-    (second-is (c .before .before .before .before))
 
 loop-holds : tie.Need-loop-holds Inv-loop μ-loop
 loop-holds c =
@@ -134,17 +79,47 @@ loop-less c = omega arith
 
 loop-again : tie.Need-loop-again Inv-loop μ-loop
 loop-again c =
-    let h = c .before .before .before .before .before .before .before .before in (
+    let touched = c .before .before .before .before in
+    let second = touched .before .before .before .before in
+    let column = second .before .before in
+    let row = column .before in
+    let turn = row .before .before in
+    let a = turn .before .before .args in (
       omega arith,
       taken-more
-          (c .before .before .before .before .before .before .before .before .before .before .before .before .before .loop .inv .1)
-          (record {
-            zero-more = bit-named _ _ _ _ (c .before .before .before .bit-of .ensures) (first-is h);
-            one-more = bit-named _ _ _ _ (c .before .before .bit-of2 .ensures) (second-is h);
-            both-more = both-named _ _ _ _ _ _ _ (c .either-of .ensures) (c .before .both-of .ensures) (first-is h) (second-is h);
-            lines-zero = lines-zero (c .before .before .before .before);
-            lines-one = lines-one (c .before .before .before .before);
-          }),
+          (turn .loop .inv .1)
+          (nonzero-adds
+          (a .m)
+          (a .n)
+          (a .nonzeros)
+          (a .list .now)
+          (a .marks .now)
+          (turn .loop .t)
+          (row .row-of .result)
+          (column .column-of .result)
+          (row .row-of .ensures)
+          (column .column-of .ensures)
+          (second .before .takes-by .result)
+          (second .takes-by2 .result)
+          (turn .loop .both)
+          (c .before .both-of .result)
+          (c .either-of .result)
+          (turn .loop .zero)
+          (turn .loop .one)
+          (c .before .before .before .bit-of .result)
+          (c .before .before .bit-of2 .result)
+          (turn .loop .by-zero)
+          (turn .loop .by-one)
+          (touched .before .before .touch .last .0)
+          (touched .touch2 .last .0)
+          (second .before .takes-by .ensures)
+          (second .takes-by2 .ensures)
+          (c .before .before .before .bit-of .ensures)
+          (c .before .before .bit-of2 .ensures)
+          (c .before .both-of .ensures)
+          (c .either-of .ensures)
+          (touched .before .before .touch .ensures)
+          (touched .touch2 .ensures)),
     )
 
 returns : tie.Need-returns Inv-loop μ-loop

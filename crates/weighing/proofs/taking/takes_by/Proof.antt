@@ -10,14 +10,8 @@ wide16-requires c κs = search needs
 line-mark-requires : tie.Need-line-mark-requires
 line-mark-requires c κs = search needs
 
-wide16-requires-2 : tie.Need-wide16-requires-2
-wide16-requires-2 c κs = search needs
-
-wide16-requires-3 : tie.Need-wide16-requires-3
-wide16-requires-3 c κs = search needs
-
-add-line-mark : tie.Need-add-line-mark
-add-line-mark c = search needs
+column-line-requires : tie.Need-column-line-requires
+column-line-requires c κs = search needs
 
 line-mark-requires-2 : tie.Need-line-mark-requires-2
 line-mark-requires-2 c κs = search needs
@@ -34,9 +28,7 @@ takes-by-spec =
     (tie.spec
     wide16-requires
     line-mark-requires
-    wide16-requires-2
-    wide16-requires-3
-    add-line-mark
+    column-line-requires
     line-mark-requires-2
     either-of-requires
     returns)

@@ -1,26 +1,65 @@
--- `weighing::weights::weigh_lines` meets its contract.
+-- `weighing::weights::weigh_lines` meets its contract. The invariant: the counts and the weights are those of the nonzeros passed.
 -- Assumes nothing.
 use borrow.Author.Needs.{needs}
-use borrow.Author.Tests.{leb-true}
-use mathlib.Core.Path.{sym, _∙_}
+use Prim.Native.Nat.{_-_, _≤_}
+use native.Mathlib.Omega.{arith}
+use Rattle.model.specs.Pattern.{patternOf}
+use Rattle.weighing.specs.Cells.{markingIn}
+use Rattle.weighing.proofs.Weighed.{WeighsTo, weighs-start, weighs-more, weighs-end, stakes-small}
 use Rattle.weighing.proofs.weights.weigh_lines.Statement.{statement}
 use Rattle.weighing.proofs.weights.weigh_lines.Tie as tie
 
-is-full-requires : tie.Need-is-full-requires
-is-full-requires c κs = search needs
+abbrev Inv-loop : tie.InvT-loop
+Inv-loop m n nonzeros list marks lean weights₀ stakes₀ t₀ weights stakes t =
+    (t ≤ nonzeros)
+    × WeighsTo (patternOf m n nonzeros list) (markingIn marks) lean t (stakes .zero) (stakes .one) (stakes .conflicts) weights
 
-weigh-full-requires : tie.Need-weigh-full-requires
-weigh-full-requires c κs = leb-true _ _ (sym (c .before .before .is-full .ensures) ∙ c .before .if1 .taken)
+abbrev μ-loop : tie.MeasureT-loop
+μ-loop m n nonzeros list marks lean weights₀ stakes₀ t₀ weights stakes t = nonzeros - t
 
-returns : tie.Need-returns
-returns c = search needs
+clear-requires : tie.Need-clear-requires Inv-loop μ-loop
+clear-requires c κs = search needs
 
-weigh-all-requires : tie.Need-weigh-all-requires
-weigh-all-requires c κs = search needs
+loop-holds : tie.Need-loop-holds Inv-loop μ-loop
+loop-holds c =
+    let a = c .before .before .before .args in
+    (omega arith, weighs-start (patternOf (a .m) (a .n) (a .nonzeros) (a .list .now)) (markingIn (a .marks .now)) (a .lean .now) (c .clear .last .0) (c .clear .ensures))
 
-returns-2 : tie.Need-returns-2
-returns-2 c = search needs
+weigh-one-requires : tie.Need-weigh-one-requires Inv-loop μ-loop
+weigh-one-requires c κs =
+    let small = stakes-small (c .before .before .loop .inv .1) in
+    (omega (arith, c .before .before .before .before .before .before .fits), small .0, small .1, small .2)
+
+add-t : tie.Need-add-t Inv-loop μ-loop
+add-t c = omega arith
+
+loop-less : tie.Need-loop-less Inv-loop μ-loop
+loop-less c = omega arith
+
+loop-again : tie.Need-loop-again Inv-loop μ-loop
+loop-again c =
+    let a = c .before .before .before .before .before .before .before .args in (
+      omega arith,
+      weighs-more
+          (omega (arith, c .before .before .before .before .before .before .before .fits))
+          (c .before .before .before .loop .inv .1)
+          (c .weigh-one .ensures (a .n) (a .nonzeros)),
+    )
+
+returns : tie.Need-returns Inv-loop μ-loop
+unfolding patternOf
+returns c = weighs-end (omega arith) (c .before .loop .inv .1)
 
 pub weigh-lines-spec : {M : Type 1} → statement M
 weigh-lines-spec =
-    tie.close (tie.spec is-full-requires weigh-full-requires returns weigh-all-requires returns-2)
+    tie.close
+    (tie.spec
+    Inv-loop
+    μ-loop
+    clear-requires
+    loop-holds
+    weigh-one-requires
+    add-t
+    loop-less
+    loop-again
+    returns)

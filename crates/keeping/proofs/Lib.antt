@@ -1,0 +1,14 @@
+pub mod Marked
+pub mod MarkedTaken
+pub mod MarkedLoads
+pub mod Stages
+pub mod StagesSettled
+pub mod StagesTurns
+pub mod Holding
+pub mod Placing
+pub mod Changes
+pub mod Nears
+pub mod Ties
+pub mod Raises
+pub mod Rooms
+pub mod Turns

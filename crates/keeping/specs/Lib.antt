@@ -1,0 +1,4 @@
+pub mod Kinds
+pub mod Tied
+pub mod Kept
+pub mod Moves

@@ -1,0 +1,11 @@
+pub mod Behind
+pub mod Turns
+pub mod Goings
+pub mod Outcomes
+pub mod Empty
+pub mod Placed
+pub mod Attempts
+pub mod Walked
+pub mod Beginnings
+pub mod Budgets
+pub mod Answered

@@ -1,0 +1,11 @@
+-- `running::no_tally` meets its contract.
+-- Assumes nothing.
+use Rattle.running.proofs.Beginnings.{zeros-are}
+use Rattle.running.proofs.beginning.no_tally.Statement.{statement}
+use Rattle.running.proofs.beginning.no_tally.Tie as tie
+
+returns : tie.Need-returns
+returns c = zeros-are 602
+
+pub no-tally-spec : {M : Type 1} → statement M
+no-tally-spec = tie.close (tie.spec returns)

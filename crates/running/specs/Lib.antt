@@ -1,0 +1,5 @@
+pub mod Budget
+pub mod Arrays
+pub mod Judging
+pub mod Walking
+pub mod Run
