@@ -1,8 +1,10 @@
 // Measures tries per second of each implementation of the C function, how the
-// cost of a try grows with the number of nonzeros, and peak memory.
+// cost of a try grows with the number of nonzeros, and peak memory; and, by the
+// proved program `resuming`, the time of a showing and the own costs of a run.
 //
-// Usage: speed DATA-DIRECTORY [BUDGET], with a budget of at most 1,000,000
-// tries a call; 1,000,000 if left out. Times are processor time, so that other
+// Usage: speed DATA-DIRECTORY [BUDGET [RESUMING]], with a budget of at most
+// 1,000,000 tries a call, 1,000,000 if left out, and the path of `resuming`,
+// without which its table is left out. Times are processor time, so that other
 // work on the machine counts little. Each measurement runs in a process of its
 // own, so that its peak memory is its own; the quickest of three counts, and
 // the table gives the slowest as well. A call is repeated until it has taken a
@@ -10,9 +12,9 @@
 //
 // Compiled with -DBEFORE_LIBRARY and linked with an earlier library, it measures
 // that as well.
-#include "baseline/text.hpp"
 #include "implementations.hpp"
-#include "random.hpp"
+#include "resuming.hpp"
+#include "subjects.hpp"
 #ifdef BEFORE_LIBRARY
 #include "before.hpp"
 #endif
@@ -24,18 +26,8 @@
 #include <cstdio>
 #include <cstdlib>
 #include <ctime>
-#include <fstream>
-#include <iterator>
 
 namespace {
-
-struct Subject {
-    std::string name;
-    uint64_t rows = 0, columns = 0;
-    uint64_t cap = 0;            // of both parts
-    std::vector<uint8_t> list;
-    uint64_t nonzeros() const { return list.size() / baseline::entry_size; }
-};
 
 struct Measure {
     uint64_t tries = 0;          // of one call
@@ -125,40 +117,6 @@ Measure measured(bipartition_function* function, const Subject& subject, uint64_
     return best;
 }
 
-// ---- patterns
-
-uint64_t cap_at_3_percent(uint64_t nonzeros) {
-    baseline::Capped capped;
-    baseline::cap_from_percent(nonzeros, 3, capped);
-    return capped.cap;
-}
-
-Subject matrix(const std::string& data, const std::string& name) {
-    std::ifstream file(data + "/" + name + ".mtx", std::ios::binary);
-    std::string text{std::istreambuf_iterator<char>(file), {}};
-    Subject subject;
-    subject.list.resize(baseline::entry_size * baseline::most_nonzeros);
-    baseline::TextContent content;
-    baseline::read_text(text, subject.list.data(), subject.list.size(), nullptr, 0, content);
-    subject.name = name;
-    subject.rows = content.rows;
-    subject.columns = content.columns;
-    subject.list.resize(baseline::entry_size * content.nonzeros);
-    subject.cap = cap_at_3_percent(subject.nonzeros());
-    return subject;
-}
-
-Subject random_subject(uint64_t rows, uint64_t columns, uint64_t nonzeros, uint64_t seed) {
-    Random random(seed);
-    Subject subject;
-    subject.name = std::to_string(rows) + " by " + std::to_string(columns) + " random";
-    subject.rows = rows;
-    subject.columns = columns;
-    subject.list = random_list(random, rows, columns, nonzeros);
-    subject.cap = cap_at_3_percent(subject.nonzeros());
-    return subject;
-}
-
 std::string outcome(const Measure& measure) {
     if (measure.none_yet) return "none yet";
     return "volume " + std::to_string(measure.volume) + (measure.complete ? "" : ", stopped");
@@ -186,17 +144,13 @@ void print_subject(const Subject& subject, uint64_t budget) {
         print_row(subject, all[at], found[at], found[0].rate(), found[1].rate());
 }
 
-void print_speed(const std::string& data, uint64_t budget) {
+void print_speed(const std::vector<Subject>& subjects, uint64_t budget) {
     std::printf("Speed, at 3 percent, one call with a budget of %llu\n\n",
                 (unsigned long long)budget);
     std::printf("| pattern | N | cap | implementation | result | tries | tries a second "
                 "| ns a try (slowest) | times plain | of incremental | peak kB |\n"
                 "|---|---|---|---|---|---|---|---|---|---|---|\n");
-    for (const char* name : {"karate", "chesapeake", "steam3", "cage5"})
-        print_subject(matrix(data, name), budget);
-    print_subject(random_subject(30, 30, 200, 1), budget);
-    print_subject(random_subject(100, 100, 1500, 1), budget);
-    print_subject(random_subject(300, 300, 4000, 1), budget);
+    for (const Subject& subject : subjects) print_subject(subject, budget);
 }
 
 void print_growth_row(uint64_t side, uint64_t nonzeros, uint64_t budget) {
@@ -226,10 +180,12 @@ void print_growth(uint64_t budget) {
 
 int main(int count, char** words) {
     if (count < 2) {
-        std::printf("usage: speed DATA-DIRECTORY [BUDGET]\n");
+        std::printf("usage: speed DATA-DIRECTORY [BUDGET [RESUMING]]\n");
         return 2;
     }
     uint64_t budget = count > 2 ? std::strtoull(words[2], nullptr, 10) : baseline::most_budget;
-    print_speed(words[1], budget);
+    std::vector<Subject> subjects = all_subjects(words[1]);
+    print_speed(subjects, budget);
     print_growth(std::min<uint64_t>(budget, 100000));
+    if (count > 3) resuming::print(words[3], subjects, budget);
 }

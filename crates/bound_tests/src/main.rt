@@ -1,13 +1,14 @@
-// Prints what an evaluation says of markings of several patterns, in the words of the list of expected bounds, with looks. Its input has the cases.
-use bound::Evaluation;
-use bound::evaluating::evaluate_lines;
+// Prints what an evaluation by the functions that a run judges by says of markings of several patterns, in the words of the list of expected
+// bounds, with looks. Its input has the cases.
 use libc::STDIN_FILENO;
 use marking::marks::unmarked_lines;
-use matching::starts::row_starts;
 use model::Caps;
 use model::limits::LIST_ROOM;
 use pattern::reading::byte_at;
 use pattern::reading::long16;
+use pattern::reading::wide32;
+use running::evaluating::Evaluation;
+use running::evaluating::evaluate_lines;
 use testing::Kind;
 use testing::cases::field_at;
 use testing::cases::list_at;
@@ -18,13 +19,16 @@ use testing::saying::say;
 use testing::saying::say_number;
 use trail::MARK_ROOM;
 
+// A count that no bound reaches, so that the least of it and a bound is the bound.
+const ABOVE_BOUNDS: u64 = 1_000_000;
+
 // The bound of a valid marking, with its parts and its looks.
 fn say_bound(e: Evaluation) {
     say_number(b" L1 ", long16(e.cut));
-    say_number(b" L2 ", long16(e.torn));
-    say_number(b" L3 ", long16(e.struck));
+    say_number(b" L2 ", wide32(e.torn) as u64);
+    say_number(b" L3 ", e.struck);
     say_number(b" L4 ", e.matched);
-    say_number(b" bound ", e.bound);
+    say_number(b" bound ", e.least);
     say_number(b" looks ", e.looks);
 }
 
@@ -42,9 +46,9 @@ fn say_all(e: Evaluation) {
 
 // A pattern and its caps as a case gives them, and the place of the next case.
 struct Given {
-    m: u16,
-    n: u16,
-    nonzeros: u16,
+    m: u64,
+    n: u64,
+    nonzeros: u64,
     caps: Caps,
     list: [u8; LIST_ROOM],
     len: usize,
@@ -66,9 +70,9 @@ fn given_at(cases: &[u8], at: usize) -> Given {
     };
     let listed = list_at(cases, cap1.next, &mut list);
     Given {
-        m: (m.value % 65536) as u16,
-        n: (n.value % 65536) as u16,
-        nonzeros: (nonzeros.value % 65536) as u16,
+        m: m.value,
+        n: n.value,
+        nonzeros: nonzeros.value,
         caps,
         list,
         len: listed.value as usize,
@@ -80,7 +84,6 @@ fn given_at(cases: &[u8], at: usize) -> Given {
 fn say_marking(given: Given, letters: &[u8]) {
     let page = given.list;
     let list = first(&page, given.len);
-    let starts = row_starts(list, given.nonzeros);
     let mut marks = unmarked_lines();
     lay_marks(&mut marks, letters);
     let e = evaluate_lines(
@@ -89,8 +92,8 @@ fn say_marking(given: Given, letters: &[u8]) {
         given.nonzeros,
         list,
         given.caps,
-        &starts,
         &marks,
+        ABOVE_BOUNDS,
     );
     say(letters);
     say_all(e);

@@ -152,9 +152,6 @@ unfolding bit
 bit-le-one true = omega arith
 bit-le-one false = omega arith
 
-pub bit-small : (r : ℕ) (b : Bool) → r ≡ bit b → r ≤ 1
-bit-small r b e = omega (arith, bit-le-one b)
-
 -- the number of a test is monotone
 pub bit-mono : (a b : Bool) → (a ≡ true → b ≡ true) → bit a ≤ bit b
 unfolding bit

@@ -44,7 +44,7 @@ unfolding pick
 pick-add true x y = refl
 pick-add false x y = refl
 
-pick-bit : (b : Bool) → pick b 1 0 ≡ bit b
+pub pick-bit : (b : Bool) → pick b 1 0 ≡ bit b
 unfolding pick bit
 pick-bit true = refl
 pick-bit false = refl
@@ -108,7 +108,7 @@ meet-bits false false true false h k = refl
 meet-bits false false false true h k = refl
 meet-bits false false false false h k = refl
 
-eqb-turned : (a b : ℕ) → eqb a b ≡ eqb b a
+pub eqb-turned : (a b : ℕ) → eqb a b ≡ eqb b a
 eqb-turned a b =
     both-ways
     (eqb a b)

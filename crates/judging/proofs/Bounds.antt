@@ -1,16 +1,14 @@
--- The bound that is made of what is kept is that of the marking, and how it is compared with a count step by step.
+-- The bound that is made of what is kept is that of the marking, and how the least of it and a count is found step by step.
 -- Assumes nothing.
-use mathlib.Core.Bool.{false}
 use mathlib.Core.List.{List}
-use mathlib.Core.Path.{_≡_, refl, sym, _∙_}
-use Prim.Native.Nat.{ℕ, _+_, _-_, _≤_, _<_, max}
+use mathlib.Core.Path.{_≡_, refl, sym, _∙_, ap}
+use Prim.Native.Nat.{ℕ, _+_, _-_, _≤_, _<_, min, max}
 use native.Mathlib.Nat.{le-max-left, le-max-right, max-le}
 use native.Mathlib.Omega.{arith}
-use borrow.Author.Tests.{lt-ltb, le-ltb, ltb-true, eq-eqb, ne-eqb}
-use lib.Dec.{ltb}
+use borrow.Author.Tests.{eq-eqb, ne-eqb}
 use lib.ListN.{getD}
 use Rattle.counting.specs.Tests.{pick}
-use Rattle.counting.proofs.Joined.{both-ways, pick-true, pick-false}
+use Rattle.counting.proofs.Joined.{pick-true, pick-false}
 use Rattle.model.specs.declared.Part.{Part}
 use Rattle.model.specs.declared.Part.the-variants.{Zero, One}
 use Rattle.model.specs.declared.Mark.the-variants.{Cut}
@@ -42,7 +40,8 @@ unfolding capAt
 cap-one caps p n = sym (pick-false (caps .cap0) (caps .cap1) (ne-eqb p 0 n))
 
 module _ {P : Pattern} {μ : Marking} {marks by left kinds tally sums loads : List ℕ} (i : Inside P) (h : Holds P μ marks by left kinds tally sums loads) (top : ℕ) (light : top ≤ lineLimit) (above : (l : ℕ) → l < lines P → unmarked ≤ μ l → lineCount P l ≤ top) (caps : Caps) where
-  struck-from : (p : Part) → struckFrom tally sums loads caps top (partNumber p) ≡ struck P caps μ p
+  -- the lines struck for a part
+  pub struck-from : (p : Part) → struckFrom tally sums loads caps top (partNumber p) ≡ struck P caps μ p
   unfolding struckFrom
   struck-from p = rw (cap-at caps p) (struck-kept i h p top light above caps)
 
@@ -60,7 +59,7 @@ pub struck-by :
 unfolding struckFrom
 struck-by tally sums loads caps top p r s room e f g = e ∙ rw (f, g)
 
--- the comparison with a count, step by step: the matching alone reaches it, or the lines struck for 0, or all lines struck decide
+-- the least of a count and the bound, step by step: the matching alone reaches the count, or the lines struck for 0, or all lines struck, or nothing does
 module _ (tally sums loads : List ℕ) (caps : Caps) (top matched best : ℕ) where
   abbrev sure : ℕ
   sure = getD loads (markNumber Cut) 0 + getD sums tornPlace 0
@@ -68,25 +67,24 @@ module _ (tally sums loads : List ℕ) (caps : Caps) (top matched best : ℕ) wh
   abbrev struckAt : ℕ → ℕ
   struckAt p = struckFrom tally sums loads caps top p
 
-  pub matched-reaches : best ≤ sure + matched → ltb (boundFrom tally sums loads caps top matched) best ≡ false
+  pub matched-reaches : best ≤ sure + matched → min (boundFrom tally sums loads caps top matched) best ≡ best
   unfolding boundFrom
-  matched-reaches b = le-ltb _ best (omega (arith, le-max-right (struckAt 0 + struckAt 1) matched))
+  matched-reaches b = omega (arith, le-max-right (struckAt 0 + struckAt 1) matched)
 
-  pub zero-reaches : best - sure ≤ struckAt 0 → ltb (boundFrom tally sums loads caps top matched) best ≡ false
+  pub zero-reaches : best - sure ≤ struckAt 0 → min (boundFrom tally sums loads caps top matched) best ≡ best
   unfolding boundFrom
-  zero-reaches b = le-ltb _ best (omega (arith, le-max-left (struckAt 0 + struckAt 1) matched))
+  zero-reaches b = omega (arith, le-max-left (struckAt 0 + struckAt 1) matched)
 
-  pub struck-decides :
-      (one left : ℕ) → sure + matched < best → struckAt 0 < best - sure →
-      one ≡ struckAt 1 → left ≡ best - sure - struckAt 0 →
-      ltb one left ≡ ltb (boundFrom tally sums loads caps top matched) best
+  pub struck-reaches : best - sure - struckAt 0 ≤ struckAt 1 → min (boundFrom tally sums loads caps top matched) best ≡ best
   unfolding boundFrom
-  struck-decides one left a b e f =
-      both-ways
-      (ltb one left)
-      (ltb (sure + max (struckAt 0 + struckAt 1) matched) best)
-      (λ h. let z : one < left = ltb-true one left h in
-      let k : max (struckAt 0 + struckAt 1) matched ≤ best - sure - 1 = max-le (omega arith) (omega arith) in
-      lt-ltb (sure + max (struckAt 0 + struckAt 1) matched) best (omega arith))
-      (λ h. let z : sure + max (struckAt 0 + struckAt 1) matched < best = ltb-true _ _ h in
-      lt-ltb one left (omega (arith, le-max-left (struckAt 0 + struckAt 1) matched)))
+  struck-reaches b = omega (arith, le-max-left (struckAt 0 + struckAt 1) matched)
+
+  pub none-reaches :
+      (zero one most : ℕ) → zero ≡ struckAt 0 → one ≡ struckAt 1 → most ≡ max (zero + one) matched →
+      sure + matched < best → zero < best - sure → one < best - sure - zero →
+      sure + most ≡ min (boundFrom tally sums loads caps top matched) best
+  unfolding boundFrom
+  none-reaches zero one most e f g a b c =
+      let same : zero + one ≡ struckAt 0 + struckAt 1 = omega arith in
+      let k : max (zero + one) matched ≤ best - sure = max-le (omega arith) (omega arith) in
+      omega (arith, ap (λ (x : ℕ). max x matched) same)

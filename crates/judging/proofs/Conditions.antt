@@ -23,7 +23,7 @@ use Rattle.model.specs.Bound.{saysTorn, saysLeaning, leans, L2, conflict, untak
 use Rattle.model.specs.Matching.{conflicts}
 use Rattle.model.proofs.Bound.Conditions.{leaning-line}
 use Rattle.model.proofs.Split.Lines.{row-line-in, column-line-in}
-use Rattle.weighing.proofs.Leans.{condition-open}
+use Rattle.weighing.proofs.Conditions.{condition-open}
 use Rattle.bound.specs.Evaluated.{LeansAt}
 use Rattle.keeping.specs.Kinds.{cells, kindNumber, kindOf, pairs, apart, tornOf}
 use Rattle.keeping.specs.Tied.{tornPlace, conflictsPlace}

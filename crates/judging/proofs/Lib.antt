@@ -1,6 +1,7 @@
 pub mod Crossed
 pub mod Conditions
 pub mod Staked
+pub mod Strikes
 pub mod Weights
 pub mod Struck
 pub mod Stepped

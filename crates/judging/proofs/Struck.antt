@@ -22,13 +22,13 @@ use Rattle.model.specs.Bound.{leans, untakenOn, atStake, falling, leaningCounts
 use Rattle.model.proofs.Bound.Conditions.{leaning-line}
 use Rattle.model.proofs.Bound.Struck.{untaken-most, untaken-line}
 use Rattle.model.proofs.Alike.Bounds.{falling-eq}
-use Rattle.weighing.proofs.Struck.{falling-either}
 use Rattle.keeping.specs.Kinds.{cells, tallyOf}
 use Rattle.keeping.specs.Tied.{bothPlace, tallyPlace}
 use Rattle.keeping.specs.Kept.{Holds}
 use Rattle.keeping.proofs.MarkedTaken.{part-below}
 use Rattle.judging.proofs.Conditions.{kinds-lean, leaning-left}
 use Rattle.judging.proofs.Staked.{stake-kept}
+use Rattle.judging.proofs.Strikes.{falling-either}
 
 module _ {P : Pattern} {μ : Marking} {marks by left kinds tally sums loads : List ℕ} (i : Inside P) (h : Holds P μ marks by left kinds tally sums loads) (p : Part) where
   -- a line that leans to p and has x untaken nonzeros, by what is kept and by the marking

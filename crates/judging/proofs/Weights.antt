@@ -10,7 +10,7 @@ use lib.Dec.{leb}
 use lib.ListN.{replicate}
 use Rattle.counting.proofs.Joined.{no-way, by-test}
 use Rattle.model.specs.Bound.{falling, strikes}
-use Rattle.weighing.proofs.Struck.{fallingBelow, strikes-stop, strikes-first, down-start}
+use Rattle.judging.proofs.Strikes.{fallingBelow, strikes-stop, strikes-first, down-start}
 
 -- only what s is above the room matters
 strikes-over : (xs : List ℕ) (s room : ℕ) → strikes xs s room ≡ strikes xs (s - room) 0

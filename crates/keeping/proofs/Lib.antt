@@ -3,6 +3,7 @@ pub mod MarkedTaken
 pub mod MarkedLoads
 pub mod Stages
 pub mod StagesSettled
+pub mod Standing
 pub mod StagesTurns
 pub mod Holding
 pub mod Placing
@@ -11,4 +12,5 @@ pub mod Nears
 pub mod Ties
 pub mod Raises
 pub mod Rooms
+pub mod Shifts
 pub mod Turns

@@ -20,6 +20,7 @@ use Rattle.model.specs.Marking.{Marking, markNumber, unmarked, takes, taken, co
 use Rattle.model.specs.Bound.{L1, saysCut}
 use Rattle.model.proofs.Bound.Conditions.{cut-is}
 use Rattle.crossing.specs.Crossing.{across, overLine}
+use Rattle.crossing.proofs.Over.{pick-bit}
 use Rattle.keeping.specs.Kept.{crossingWith, crossingOpen, markingWith, Placeable}
 use Rattle.keeping.proofs.Marked.{with-same, with-other, mark-more}
 
@@ -164,11 +165,6 @@ sum-pick : (b : Bool) (f : ℕ → ℕ) (n : ℕ) → sum (λ z. pick b (f z) 0)
 unfolding pick
 sum-pick true f n = refl
 sum-pick false f n = sum-zero (λ z. 0) n (λ z b. refl)
-
-pick-bit : (b : Bool) → pick b 1 0 ≡ bit b
-unfolding pick bit
-pick-bit true = refl
-pick-bit false = refl
 
 pub cut-lines : (P : Pattern) (μ : Marking) → L1 P μ ≡ sum (λ z. bit (eqb (μ z) (markNumber Cut))) (lines P)
 unfolding L1

@@ -3,7 +3,7 @@
 use mathlib.Core.Bool.{Bool, true, false}
 use mathlib.Core.List.{List}
 use mathlib.Core.Path.{_≡_, refl, sym, _∙_, ap, subst}
-use Prim.Native.Nat.{ℕ, _+_, _-_, _*_, _≤_, _<_}
+use Prim.Native.Nat.{ℕ, _+_, _-_, _≤_, _<_}
 use native.Mathlib.Omega.{arith}
 use borrow.Author.Tests.{eq-eqb, ne-eqb, eqb-true, eqb-false, lt-ltb, le-ltb}
 use lib.Dec.{eqb}
@@ -11,8 +11,8 @@ use lib.ListN.{length, getD, set, length-set}
 use Rattle.counting.specs.Tests.{_and_, pick, bit}
 use Rattle.counting.proofs.Joined.{no-way, clash, by-test, pick-true, pick-false, bit-true, bit-false, and-intro, and-left, and-right, and-fails-left}
 use Rattle.counting.proofs.Lists.{set-pick}
-use Rattle.weighing.specs.Striking.{weightRoom}
-use Rattle.keeping.specs.Tied.{tallyPlace, bothPlace, tornPlace, conflictsPlace}
+use Rattle.model.specs.Limits.{lineRoom}
+use Rattle.keeping.specs.Tied.{weightRoom, tallyPlace, nearPlace, tallyRoom, bothPlace, tornPlace, conflictsPlace}
 use Rattle.keeping.specs.Moves.{Raised, Adds, Moves}
 
 pub raised-by-store :
@@ -58,7 +58,7 @@ raised-if {i} {v} raised test j here else b =
 
 -- one line more in the tally
 tally-raised :
-    {q y : ℕ} {tally tally′ : List ℕ} → Raised (tallyPlace q y) 1 tally tally′ → length tally ≡ 2 * weightRoom →
+    {q y : ℕ} {tally tally′ : List ℕ} → Raised (tallyPlace q y) 1 tally tally′ → length tally ≡ tallyRoom →
     q < 2 → y < weightRoom → (p x : ℕ) → p < 2 → x < weightRoom →
     getD tally′ (tallyPlace p x) 0 ≡ getD tally (tallyPlace p x) 0 + bit (eqb q p and eqb y x)
 tally-raised {q} {y} {tally} {tally′} raised long c e p x b d =
@@ -72,10 +72,17 @@ tally-raised {q} {y} {tally} {tally′} raised long c e p x b d =
     elsewhere : eqb q p and eqb y x ≡ false → tallyPlace p x ≡ tallyPlace q y → ⊥
     elsewhere h s = clash (and-intro (eq-eqb q p (omega (arith, s))) (eq-eqb y x (omega (arith, s)))) h
 
+-- and no crossing line more
+near-kept :
+    {i q y : ℕ} {tally tally′ : List ℕ} → Raised i 1 tally tally′ → i ≡ tallyPlace q y → length tally ≡ tallyRoom →
+    q < 2 → y < weightRoom → (p z : ℕ) → p < 2 → z < lineRoom →
+    getD tally′ (nearPlace p z) 0 ≡ getD tally (nearPlace p z) 0
+near-kept raised at long c e p z b d = raised-else raised (nearPlace p z) (λ s. no-way (omega arith)) (omega arith)
+
 -- a line that leans: its place in the tally, then three of the sums
 pub adds-leaning :
     {kind own same other : ℕ} {tally sums tally′ sums₁ sums₂ sums′ : List ℕ} → kind < 2 → own < weightRoom →
-    length tally ≡ 2 * weightRoom → length sums ≡ 6 →
+    length tally ≡ tallyRoom → length sums ≡ 6 →
     Raised (tallyPlace kind own) 1 tally tally′ → Raised kind own sums sums₁ →
     Raised (bothPlace kind) same sums₁ sums₂ →
     Raised conflictsPlace other sums₂ sums′ → Adds kind own same other tally sums tally′ sums′
@@ -84,6 +91,7 @@ adds-leaning {kind} {own} {same} {other} {tally} {sums} {tally′} {sums₁} {su
       tally-long = t .long;
       sums-long = c .long ∙ b .long ∙ a .long;
       tally-adds = tally-raised t tally-long leans light;
+      near-stays = near-kept t refl tally-long leans light;
       left-adds = λ p d. omega (
         arith,
         raised-if a (eqb kind p) p (λ e. sym (eqb-true kind p e)) (λ e s. eqb-false kind p e (sym s)) (omega arith),
@@ -127,6 +135,7 @@ adds-torn {own} {same} {other} {tally} {sums} {sums′} long a =
       tally-long = refl;
       sums-long = a .long;
       tally-adds = λ p x b d. omega (arith, bit-false (eqb 3 p and eqb own x) (and-fails-left (eqb own x) (ne-eqb 3 p (λ s. no-way (omega arith)))));
+      near-stays = λ p z b d. refl;
       left-adds = λ p b. omega (arith, pick-false own 0 (ne-eqb 3 p (λ s. no-way (omega arith))), raised-else a p (λ s. no-way (omega arith)) (omega arith));
       both-adds = λ p b. omega (arith, pick-false same 0 (ne-eqb 3 p (λ s. no-way (omega arith))), raised-else a (bothPlace p) (λ s. no-way (omega arith)) (omega arith));
       torn-adds = omega (arith, bit-true (eqb 3 3) (eq-eqb 3 3 refl), raised-here a tornPlace refl (omega arith));
@@ -142,6 +151,7 @@ adds-nothing {kind} {own} {same} {other} b n =
       tally-long = refl;
       sums-long = refl;
       tally-adds = λ p x d e. omega (arith, bit-false (eqb kind p and eqb own x) (and-fails-left (eqb own x) (ne-eqb kind p (λ s. no-way (omega arith)))));
+      near-stays = λ p z d e. refl;
       left-adds = λ p d. omega (arith, pick-false own 0 (ne-eqb kind p (λ s. no-way (omega arith))));
       both-adds = λ p d. omega (arith, pick-false same 0 (ne-eqb kind p (λ s. no-way (omega arith))));
       torn-adds = omega (arith, bit-false (eqb kind 3) (ne-eqb kind 3 n));
@@ -151,11 +161,11 @@ adds-nothing {kind} {own} {same} {other} b n =
 -- a line that leans has one untaken nonzero less: two places of the tally, and one of the sums
 pub moves-down :
     {kind from to i j k : ℕ} {tally sums tally₁ tally′ sums′ : List ℕ} → kind < 2 → from < weightRoom →
-    from ≡ to + 1 → length tally ≡ 2 * weightRoom → length sums ≡ 6 → i ≡ tallyPlace kind from →
+    from ≡ to + 1 → length tally ≡ tallyRoom → length sums ≡ 6 → i ≡ tallyPlace kind from →
     j ≡ tallyPlace kind to → k ≡ kind → Raised i 1 tally₁ tally → Raised j 1 tally₁ tally′ →
     Raised k 1 sums′ sums → Moves kind from to tally sums tally′ sums′
 moves-down {kind} {from} {to} {i} {j} {k} {tally} {sums} {tally₁} {tally′} {sums′} leans light one tally-long sums-long i-is j-is k-is out into a =
-    let long : length tally₁ ≡ 2 * weightRoom = sym (out .long) ∙ tally-long in
+    let long : length tally₁ ≡ tallyRoom = sym (out .long) ∙ tally-long in
     record {
       tally-long = into .long ∙ sym (out .long);
       sums-long = sym (a .long);
@@ -164,6 +174,7 @@ moves-down {kind} {from} {to} {i} {j} {k} {tally} {sums} {tally₁} {tally′} {
         tally-raised (subst (λ (z : ℕ). Raised z 1 tally₁ tally) i-is out) long leans light p x b d,
         tally-raised (subst (λ (z : ℕ). Raised z 1 tally₁ tally′) j-is into) long leans (omega arith) p x b d,
       );
+      near-stays = λ p z b d. near-kept into j-is long leans (omega arith) p z b d ∙ sym (near-kept out i-is long leans light p z b d);
       left-moves = λ p b. by-test
           (eqb kind p)
           (λ e. omega (
@@ -190,6 +201,7 @@ moves-back moves =
       tally-long = sym (moves .tally-long);
       sums-long = sym (moves .sums-long);
       tally-moves = λ p x b d. sym (moves .tally-moves p x b d);
+      near-stays = λ p z b d. sym (moves .near-stays p z b d);
       left-moves = λ p b. sym (moves .left-moves p b);
       rest-stays = λ i b d. sym (moves .rest-stays i b d);
     }
@@ -206,6 +218,7 @@ moves-nothing {kind} {from} {to} b =
         bit-false (eqb kind p and eqb from x) (and-fails-left (eqb from x) (ne-eqb kind p (λ s. no-way (omega arith)))),
         bit-false (eqb kind p and eqb to x) (and-fails-left (eqb to x) (ne-eqb kind p (λ s. no-way (omega arith)))),
       );
+      near-stays = λ p z d e. refl;
       left-moves = λ p d. omega (
         arith,
         pick-false from 0 (ne-eqb kind p (λ s. no-way (omega arith))),

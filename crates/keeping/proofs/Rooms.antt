@@ -1,8 +1,8 @@
 -- What is tied to the kinds of lines is within bounds: no count is too large, and none too small to take a line out of it.
 -- Assumes nothing.
 use mathlib.Core.List.{List}
-use mathlib.Core.Path.{_≡_, refl, ap}
-use Prim.Native.Nat.{ℕ, _-_, _*_, _≤_, _<_}
+use mathlib.Core.Path.{_≡_, refl, _∙_, ap}
+use Prim.Native.Nat.{ℕ, _+_, _-_, _*_, _≤_, _<_}
 use native.Mathlib.Omega.{arith}
 use borrow.Author.Tests.{eq-eqb, lt-ltb, ltb-true, ltb-false, eqb-true, eqb-false}
 use lib.Dec.{eqb, ltb}
@@ -14,11 +14,13 @@ use Rattle.counting.proofs.Counted.{count-most, count-some}
 use Rattle.model.specs.Limits.{lineRoom}
 use Rattle.model.specs.Pattern.{Pattern, Inside, lines, rowLine, columnLine}
 use Rattle.crossing.specs.Crossing.{Laid}
-use Rattle.weighing.specs.Striking.{weightRoom}
 use Rattle.keeping.specs.Kinds.{tallyOf, leaningLeft, tornOf, pairs, bothAre, apart, near}
-use Rattle.keeping.specs.Tied.{Tied, bothPlace}
-use Rattle.keeping.specs.Moves.{Leavable, Enterable, Movable}
-use Rattle.keeping.proofs.Ties.{both-with, conflicts-with}
+use Rattle.keeping.specs.Tied.{weightRoom, Tied, bothPlace, nearPlace}
+use Rattle.keeping.specs.Moves.{Leavable, Enterable, Movable, Nears}
+use Rattle.keeping.specs.Kept.{meets}
+use Rattle.keeping.proofs.Marked.{meets-most}
+use Rattle.keeping.proofs.Nears.{near-few}
+use Rattle.keeping.proofs.Ties.{both-with, conflicts-with, near-with}
 
 -- each count has the line in it
 tally-some : (P : Pattern) (kind left : ℕ → ℕ) (y : ℕ) → y < lines P → 1 ≤ tallyOf P kind left (kind y) (left y)
@@ -113,19 +115,19 @@ leaves {P} inside kind left y line same-is other-is tied =
       );
     }
 
--- a line can be counted
+-- a line can be counted, also where crossing lines have been counted since
 pub enters :
-    {P : Pattern} {starts cross tally sums : List ℕ} {own same other : ℕ} → Laid P starts cross →
+    {P : Pattern} {starts cross tally tally₁ sums : List ℕ} {own same other : ℕ} → Laid P starts cross →
     (kind left : ℕ → ℕ) → own < weightRoom → same < 65536 → other < 65536 → Tied P kind left tally sums →
-    Enterable own same other tally sums
-enters {P} {starts} {cross} {tally} {sums} laid kind left light same-few other-few tied =
+    {k : ℕ} {much : ℕ → ℕ} → Nears k much tally tally₁ → Enterable own same other tally₁ sums
+enters {P} {starts} {cross} {tally} {tally₁} {sums} laid kind left light same-few other-few tied nears =
     record {
-      tally-long = tied .tally-long;
+      tally-long = nears .long ∙ tied .tally-long;
       sums-long = tied .sums-long;
       light = light;
       same-few = same-few;
       other-few = other-few;
-      tally-room = λ p x b d. omega (arith, tied .tally-is p x b d, tally-most P kind left p x, laid .few);
+      tally-room = λ p x b d. omega (arith, nears .tally-stays p x b d, tied .tally-is p x b d, tally-most P kind left p x, laid .few);
       sums-room = room;
     }
   where
@@ -171,3 +173,29 @@ moves {P} few kind left y to line light tied =
       left-some = λ b. omega (arith, tied .left-is (kind y) b, left-some P kind left y line);
       left-room = λ b. omega (arith, tied .left-is (kind y) b, left-most P kind left (kind y) (tied .light));
     }
+
+-- a line can be counted once less among the crossing lines of its kind of each line
+pub near-some :
+    {P : Pattern} {tally sums : List ℕ} → Inside P → (kind left : ℕ → ℕ) (y : ℕ) → y < lines P → kind y < 2 →
+    Tied P kind left tally sums → (z : ℕ) → z < lines P → meets P y z ≤ getD tally (nearPlace (kind y) z) 0
+near-some {P} inside kind left y line leans tied z b =
+    omega (
+      arith,
+      tied .near-is (kind y) z leans b,
+      near-with inside kind left y line (kind y) z leans,
+      pick-true (meets P y z) 0 (eq-eqb (kind y) (kind y) refl),
+    )
+
+-- or once more
+pub near-room :
+    {P : Pattern} {starts cross tally sums : List ℕ} → Laid P starts cross → (kind left : ℕ → ℕ) (y p : ℕ) → p < 2 →
+    Tied P kind left tally sums → (z : ℕ) → z < lines P → getD tally (nearPlace p z) 0 + meets P y z < 65536
+near-room {P} laid kind left y p leans tied z b =
+    omega (
+      arith,
+      tied .near-is p z leans b,
+      near-few (laid .inside) kind p z,
+      meets-most (laid .inside) y z,
+      laid .thin z,
+      laid .thin y,
+    )

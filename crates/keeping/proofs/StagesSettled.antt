@@ -6,7 +6,7 @@ use mathlib.Core.List.{List}
 use Prim.Native.Nat.{ℕ, _+_, _*_, _≤_, _<_}
 use native.Mathlib.Omega.{arith}
 use borrow.Author.Tests.{eq-eqb, eqb-true, eqb-false}
-use lib.Dec.{eqb}
+use lib.Dec.{eqb, ltb}
 use lib.ListN.{length, getD, set, length-set}
 use lib.Seq.{getD-set-same, getD-set-other}
 use Rattle.counting.specs.Tests.{pick}
@@ -126,6 +126,37 @@ counted-at {P} {μ} {p} {c} {by} {left} few part counted d y v w b same gain los
           counted .by-is q z a e,
           ap (λ (x : ℕ). pick (eqb q p) x 0) (same z e n),
         )
+
+-- the kind of a line looks only at whether its counts are above 0
+kind-of-some :
+    (mark first second first′ second′ : ℕ) → ltb 0 first′ ≡ ltb 0 first → ltb 0 second′ ≡ ltb 0 second →
+    kindOf mark first second ≡ kindOf mark first′ second′
+unfolding kindOf
+kind-of-some mark first second first′ second′ e f = rw (e, f)
+
+-- so a line keeps its kind where a count of it becomes v, unless v or what the count was is 0 and the other is not
+pub kind-kept :
+    {P : Pattern} {p y : ℕ} {marks by kinds : List ℕ} → p < 2 → y < lines P → length by ≡ 2 * lineRoom → lines P ≤ lineRoom → Agree P marks by kinds →
+    (by′ : List ℕ) (v : ℕ) → by′ ≡ set by (lineRoom * p + y) v → ltb 0 v ≡ ltb 0 (getD by (lineRoom * p + y) 0) →
+    getD kinds y 0 ≡ kindOf (getD marks y 0) (getD by′ y 0) (getD by′ (lineRoom + y) 0)
+kind-kept {P} {p} {y} {marks} {by} {kinds} part line long few agree by′ v e same =
+    agree .kind-is y line
+    ∙ kind-of-some
+    (getD marks y 0)
+    (getD by y 0)
+    (getD by (lineRoom + y) 0)
+    (getD by′ y 0)
+    (getD by′ (lineRoom + y) 0)
+    (above y)
+    (above (lineRoom + y))
+  where
+    above : (k : ℕ) → ltb 0 (getD by′ k 0) ≡ ltb 0 (getD by k 0)
+    above k =
+        by-test
+        (eqb k (lineRoom * p + y))
+        (λ d. let i = eqb-true k (lineRoom * p + y) d in
+        rw (e, i) (ap (ltb 0) (getD-set-same by (lineRoom * p + y) v 0 (omega arith)) ∙ same))
+        (λ d. rw e (ap (ltb 0) (getD-set-other by (lineRoom * p + y) k v 0 (eqb-false k (lineRoom * p + y) d))))
 
 -- line l gets mark v, and is settled
 pub stage-remarked :

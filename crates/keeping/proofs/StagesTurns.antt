@@ -1,94 +1,28 @@
--- The crossing lines of a line, one by one: what each turn of a loop over them needs, and the arrays after it.
+-- The nonzeros of a line, taken by a part or given back one by one: what each turn of a loop over its crossing lines needs, and the arrays after it.
 -- Assumes nothing.
+use mathlib.Core.Bool.{false}
 use mathlib.Core.Path.{_≡_, refl, sym, _∙_, ap}
 use mathlib.Core.List.{List}
-use Prim.Native.Nat.{ℕ, _+_, _-_, _*_, _≤_, _<_}
+use Prim.Native.Nat.{ℕ, _+_, _-_, _*_, _<_}
 use native.Mathlib.Omega.{arith}
-use borrow.Author.Tests.{eq-eqb, ne-eqb}
+use borrow.Author.Tests.{eq-eqb, eqb-false, lt-ltb}
 use lib.Dec.{eqb}
 use lib.ListN.{getD, set}
-use Rattle.counting.specs.Tests.{bit}
-use Rattle.counting.proofs.Joined.{pick-true, bit-true, bit-false}
+use lib.Seq.{getD-set-same}
+use Rattle.counting.proofs.Joined.{no-way, pick-true}
 use Rattle.model.specs.Limits.{lineRoom}
 use Rattle.model.specs.Pattern.{Pattern, lines}
 use Rattle.model.specs.Marking.{Marking, unmarked}
-use Rattle.crossing.specs.Crossing.{along, Laid}
-use Rattle.crossing.proofs.Along.{along-none, along-more, along-first, along-split}
-use Rattle.keeping.specs.Kinds.{cells}
+use Rattle.crossing.specs.Crossing.{Laid}
+use Rattle.keeping.specs.Kinds.{cells, kindOf}
 use Rattle.keeping.specs.Tied.{Tied, Takeable, Givable}
 use Rattle.keeping.specs.Kept.{meets, none, Stage}
 use Rattle.keeping.proofs.Marked.{crossing-most, open-most, meets-open}
+use Rattle.keeping.proofs.Standing.{standing, standing-none, standing-all, Turn, turn-line, turn-few, standing-more, standing-less, standing-both, turn-own, turn-beside}
 use Rattle.keeping.proofs.Stages.{stage-more}
-use Rattle.keeping.proofs.StagesSettled.{Settled, stage-moved}
+use Rattle.keeping.proofs.StagesSettled.{Settled, kind-kept, stage-moved}
 
--- how often line y stands in a part of the table of crossing lines
-unfoldable pub standing : List ℕ → ℕ → ℕ → ℕ → ℕ
-standing cross a b y = along cross (λ z. bit (eqb z y)) a b
-
-standing-none : (cross : List ℕ) (a b y : ℕ) → a ≡ b → standing cross a b y ≡ 0
-unfolding standing
-standing-none cross a b y e =
-    ap (along cross (λ z. bit (eqb z y)) a) (sym e) ∙ along-none cross (λ z. bit (eqb z y)) a
-
--- in the part of line l: as often as the lines meet
-standing-all :
-    {P : Pattern} {starts cross : List ℕ} → Laid P starts cross → (l a b : ℕ) → l < lines P →
-    getD starts l 0 ≡ a → getD starts (l + 1) 0 ≡ b → (y : ℕ) → standing cross a b y ≡ meets P l y
-unfolding standing meets
-standing-all {starts = starts} {cross = cross} laid l a b line e f y =
-    ap (λ (x : ℕ). standing cross x b y) (sym e)
-    ∙ ap (λ (x : ℕ). standing cross (getD starts l 0) x y) (sym f)
-    ∙ laid .crosses (λ z. bit (eqb z y)) l line
-
--- one turn of a loop over the crossing lines of line l, at line y
-pub record Turn (P : Pattern) (μ : Marking) (starts cross : List ℕ) (l p i y : ℕ) : Type 0 where
-  pub laid : Laid P starts cross
-  pub line : l < lines P
-  pub part : p < 2
-  pub free : μ l ≡ unmarked
-  pub from : getD starts l 0 ≤ i
-  pub to : i < getD starts (l + 1) 0
-  pub here : y ≡ getD cross i 0
-
-module _ {P : Pattern} {μ : Marking} {starts cross : List ℕ} {l p i y : ℕ} (turn : Turn P μ starts cross l p i y) where
-  -- the line is one of the pattern
-  pub turn-line : y < lines P
-  turn-line =
-      omega (arith, turn .here, turn .laid .lined l i (turn .line) (turn .from) (turn .to))
-
-  few : lines P ≤ lineRoom
-  few = omega (arith, turn .laid .few)
-
-  -- one line more before i, or one less from i on
-  standing-more : (z : ℕ) → standing cross (getD starts l 0) (i + 1) z ≡ standing cross (getD starts l 0) i z + bit (eqb y z)
-  unfolding standing
-  standing-more z =
-      along-more cross (λ x. bit (eqb x z)) (getD starts l 0) i (turn .from)
-      ∙ ap (λ x. standing cross (getD starts l 0) i z + bit (eqb x z)) (sym (turn .here))
-
-  standing-less : (z : ℕ) → standing cross i (getD starts (l + 1) 0) z ≡ bit (eqb y z) + standing cross (i + 1) (getD starts (l + 1) 0) z
-  unfolding standing
-  standing-less z =
-      along-first cross (λ x. bit (eqb x z)) i (getD starts (l + 1) 0) (turn .to)
-      ∙ ap (λ x. bit (eqb x z) + standing cross (i + 1) (getD starts (l + 1) 0) z) (sym (turn .here))
-
-  -- those before i and those from i on are where the lines meet
-  standing-both : (z : ℕ) → standing cross (getD starts l 0) i z + standing cross i (getD starts (l + 1) 0) z ≡ meets P l z
-  unfolding standing
-  standing-both z =
-      omega (
-        arith,
-        along-split cross (λ x. bit (eqb x z)) (getD starts l 0) i (getD starts (l + 1) 0) (turn .from) (omega (arith, turn .to)),
-        standing-all (turn .laid) l (getD starts l 0) (getD starts (l + 1) 0) (turn .line) refl refl z,
-      )
-
-  -- line y, with z for y
-  own : bit (eqb y y) ≡ 1
-  own = bit-true (eqb y y) (eq-eqb y y refl)
-
-  beside : (z : ℕ) → (z ≡ y → ⊥) → bit (eqb y z) ≡ 0
-  beside z n = bit-false (eqb y z) (ne-eqb y z (λ e. n (sym e)))
-
+module _ {P : Pattern} {starts cross : List ℕ} {l i y : ℕ} (turn : Turn P starts cross l i y) {μ : Marking} {p : ℕ} (part : p < 2) (free : μ l ≡ unmarked) where
   -- one more nonzero of line y can be taken
   pub takeable :
       {marks by left kinds tally sums : List ℕ} →
@@ -98,25 +32,25 @@ module _ {P : Pattern} {μ : Marking} {starts cross : List ℕ} {l p i y : ℕ} 
       record {
         pattern = P;
         tied = stage .tied;
-        few = few;
+        few = turn-few turn;
         left-long = stage .counts .left-long;
-        line = turn-line;
-        part = turn .part;
+        line = turn-line turn;
+        part = part;
         some = omega (
           arith,
-          stage .counts .left-is y turn-line,
-          standing-both y,
-          standing-less y,
-          own,
-          meets-open (turn .laid .inside) μ l y (turn .free),
+          stage .counts .left-is y (turn-line turn),
+          standing-both turn y,
+          standing-less turn y,
+          turn-own turn,
+          meets-open (turn .laid .inside) μ l y free,
         );
         room = omega (
           arith,
-          stage .counts .by-is p y (turn .part) turn-line,
+          stage .counts .by-is p y part (turn-line turn),
           pick-true (standing cross (getD starts l 0) i y) 0 (eq-eqb p p refl),
           crossing-most (turn .laid .inside) μ p y,
-          standing-both y,
-          meets-open (turn .laid .inside) μ l y (turn .free),
+          standing-both turn y,
+          meets-open (turn .laid .inside) μ l y free,
           open-most (turn .laid .inside) μ y,
           turn .laid .thin y,
         );
@@ -131,26 +65,72 @@ module _ {P : Pattern} {μ : Marking} {starts cross : List ℕ} {l p i y : ℕ} 
       record {
         pattern = P;
         tied = stage .tied;
-        few = few;
+        few = turn-few turn;
         left-long = stage .counts .left-long;
-        line = turn-line;
-        part = turn .part;
+        line = turn-line turn;
+        part = part;
         room = omega (
           arith,
-          stage .counts .left-is y turn-line,
-          standing-less y,
-          own,
+          stage .counts .left-is y (turn-line turn),
+          standing-less turn y,
+          turn-own turn,
           open-most (turn .laid .inside) μ y,
           turn .laid .thin y,
         );
         some = omega (
           arith,
-          stage .counts .by-is p y (turn .part) turn-line,
+          stage .counts .by-is p y part (turn-line turn),
           pick-true (standing cross i (getD starts (l + 1) 0) y) 0 (eq-eqb p p refl),
-          standing-less y,
-          own,
+          standing-less turn y,
+          turn-own turn,
         );
       }
+
+  -- the count of line y that was stored
+  stored-count :
+      {c : ℕ → ℕ} {marks by by′ left kinds tally sums : List ℕ} {v : ℕ} → Stage P μ p c marks by left kinds tally sums →
+      by′ ≡ set by (lineRoom * p + y) v → getD by′ (lineRoom * p + y) 0 ≡ v
+  stored-count {by = by} {v = v} stage e =
+      ap (λ (xs : List ℕ). getD xs (lineRoom * p + y) 0) e
+      ∙ getD-set-same by (lineRoom * p + y) v 0 (omega (arith, stage .counts .by-long, turn-line turn, turn-few turn))
+
+  -- line y has its kind already, unless its count becomes 1 as a nonzero is taken,
+  pub kind-taken :
+      {marks by by′ left kinds tally sums : List ℕ} →
+      Stage P μ p (standing cross (getD starts l 0) i) marks by left kinds tally sums →
+      by′ ≡ set by (lineRoom * p + y) (getD by (lineRoom * p + y) 0 + 1) → eqb (getD by′ (lineRoom * p + y) 0) 1 ≡ false →
+      getD kinds y 0 ≡ kindOf (getD marks y 0) (getD by′ y 0) (getD by′ (lineRoom + y) 0)
+  kind-taken {by = by} {by′} stage e f =
+      let c : getD by (lineRoom * p + y) 0 ≡ 0 → ⊥ = λ d. no-way (omega (arith, stored-count stage e, eqb-false (getD by′ (lineRoom * p + y) 0) 1 f)) in
+      kind-kept
+      part
+      (turn-line turn)
+      (stage .counts .by-long)
+      (turn-few turn)
+      (stage .agree)
+      by′
+      (getD by (lineRoom * p + y) 0 + 1)
+      e
+      (lt-ltb 0 (getD by (lineRoom * p + y) 0 + 1) (omega arith) ∙ sym (lt-ltb 0 (getD by (lineRoom * p + y) 0) (omega arith)))
+
+  -- or 0 as one is given back
+  pub kind-given :
+      {marks by by′ left kinds tally sums : List ℕ} →
+      Stage P μ p (standing cross i (getD starts (l + 1) 0)) marks by left kinds tally sums →
+      by′ ≡ set by (lineRoom * p + y) (getD by (lineRoom * p + y) 0 - 1) → eqb (getD by′ (lineRoom * p + y) 0) 0 ≡ false →
+      getD kinds y 0 ≡ kindOf (getD marks y 0) (getD by′ y 0) (getD by′ (lineRoom + y) 0)
+  kind-given {by = by} {by′} stage e f =
+      let c : getD by (lineRoom * p + y) 0 - 1 ≡ 0 → ⊥ = λ d. eqb-false (getD by′ (lineRoom * p + y) 0) 0 f (stored-count stage e ∙ d) in
+      kind-kept
+      part
+      (turn-line turn)
+      (stage .counts .by-long)
+      (turn-few turn)
+      (stage .agree)
+      by′
+      (getD by (lineRoom * p + y) 0 - 1)
+      e
+      (lt-ltb 0 (getD by (lineRoom * p + y) 0 - 1) (omega arith) ∙ sym (lt-ltb 0 (getD by (lineRoom * p + y) 0) (omega arith)))
 
   -- one more nonzero is taken, and the line is settled
   pub stage-taken :
@@ -163,18 +143,18 @@ module _ {P : Pattern} {μ : Marking} {starts cross : List ℕ} {l p i y : ℕ} 
       stage-moved
       (getD by (lineRoom * p + y) 0 + 1)
       (getD left y 0 - 1)
-      few
-      (turn .part)
-      turn-line
+      (turn-few turn)
+      part
+      (turn-line turn)
       stage
       e
       f
       settled
       tied
       (standing cross (getD starts l 0) (i + 1))
-      (λ z b n. omega (arith, standing-more z, beside z n))
-      (omega (arith, standing-more y, own))
-      (omega (arith, standing-more y, own, takeable stage .some))
+      (λ z b n. omega (arith, standing-more turn z, turn-beside turn z n))
+      (omega (arith, standing-more turn y, turn-own turn))
+      (omega (arith, standing-more turn y, turn-own turn, takeable stage .some))
 
   -- one nonzero is given back, and the line is settled
   pub stage-given :
@@ -187,18 +167,18 @@ module _ {P : Pattern} {μ : Marking} {starts cross : List ℕ} {l p i y : ℕ} 
       stage-moved
       (getD by (lineRoom * p + y) 0 - 1)
       (getD left y 0 + 1)
-      few
-      (turn .part)
-      turn-line
+      (turn-few turn)
+      part
+      (turn-line turn)
       stage
       e
       f
       settled
       tied
       (standing cross (i + 1) (getD starts (l + 1) 0))
-      (λ z b n. omega (arith, standing-less z, beside z n))
-      (omega (arith, standing-less y, own, givable stage .some))
-      (omega (arith, standing-less y, own))
+      (λ z b n. omega (arith, standing-less turn z, turn-beside turn z n))
+      (omega (arith, standing-less turn y, turn-own turn, givable stage .some))
+      (omega (arith, standing-less turn y, turn-own turn))
 
 -- before a loop's first turn or after its last nothing is taken besides, or all where the lines meet
 module _ {P : Pattern} {μ : Marking} {p : ℕ} {marks by left kinds tally sums : List ℕ} where

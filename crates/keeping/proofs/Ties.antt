@@ -3,20 +3,22 @@
 use mathlib.Core.Bool.{false}
 use mathlib.Core.List.{List}
 use mathlib.Core.Path.{_≡_, refl, sym, _∙_, ap}
-use Prim.Native.Nat.{ℕ, _+_, _-_, _<_}
+use Prim.Native.Nat.{ℕ, _+_, _-_, _≤_, _<_}
 use native.Mathlib.Omega.{arith}
 use borrow.Author.Tests.{eq-eqb, ne-eqb, eqb-true, eqb-false, ltb-true, le-ltb}
 use lib.Dec.{eqb, ltb}
 use Rattle.counting.specs.Tests.{_and_, pick, bit}
 use Rattle.counting.proofs.Joined.{no-way, by-test, pick-true, pick-false, bit-false, and-eq, and-fails-left}
 use Rattle.counting.proofs.Summed.{sum-eq}
+use Rattle.model.specs.Limits.{lineRoom}
 use Rattle.model.specs.Pattern.{Pattern, Inside, lines, rowLine, columnLine}
 use Rattle.crossing.specs.Crossing.{overLine}
-use Rattle.crossing.proofs.Over.{row-inside, column-inside}
-use Rattle.weighing.specs.Striking.{weightRoom}
+use Rattle.crossing.proofs.Over.{row-inside, column-inside, over-eq}
 use Rattle.keeping.specs.Kinds.{tallyOf, leaningLeft, tornOf, pairs, bothAre, apart, near, without}
-use Rattle.keeping.specs.Tied.{Tied, bothPlace, tornPlace, conflictsPlace}
-use Rattle.keeping.specs.Moves.{Adds, Moves}
+use Rattle.keeping.specs.Tied.{weightRoom, Tied, bothPlace, tornPlace, conflictsPlace}
+use Rattle.keeping.specs.Moves.{Adds, Moves, Nears}
+use Rattle.keeping.specs.Kept.{meets}
+use Rattle.keeping.proofs.Marked.{over-number}
 use Rattle.keeping.proofs.Changes.{tally-change, left-change, torn-change, pair-change}
 use Rattle.keeping.proofs.Nears.{both-even, apart-even, both-near, apart-near}
 
@@ -79,6 +81,16 @@ module _ {P : Pattern} (inside : Inside P) {kind left kind′ left′ : ℕ → 
       (λ t b. ap (λ (z : ℕ). h z (kind′ (columnLine P t))) (same-kind (rowLine P t) (row-inside inside t b))
       ∙ ap (h (kind (rowLine P t))) (same-kind (columnLine P t) (column-inside inside t b)))
 
+  near-eq : (p y : ℕ) → near P kind′ p y ≡ near P kind p y
+  unfolding near
+  near-eq p y =
+      over-eq
+      inside
+      y
+      (λ z. bit (eqb (kind′ z) p))
+      (λ z. bit (eqb (kind z) p))
+      (λ z b. ap (λ (k : ℕ). bit (eqb k p)) (same-kind z b))
+
   -- have the same tied to them
   pub tied-eq : {tally sums : List ℕ} → Tied P kind left tally sums → Tied P kind′ left′ tally sums
   tied-eq tied =
@@ -87,6 +99,7 @@ module _ {P : Pattern} (inside : Inside P) {kind left kind′ left′ : ℕ → 
         sums-long = tied .sums-long;
         light = λ l b. omega (arith, tied .light l b, same-left l b);
         tally-is = λ p x b d. tied .tally-is p x b d ∙ sym (tally-same p x);
+        near-is = λ p y b d. tied .near-is p y b d ∙ sym (near-eq p y);
         left-is = λ p b. tied .left-is p b ∙ sym (left-same p);
         both-is = λ p b. tied .both-is p b ∙ sym (pairs-same (bothAre p));
         torn-is = tied .torn-is ∙ sym torn-same;
@@ -152,8 +165,24 @@ module _ {P : Pattern} (inside : Inside P) (kind left : ℕ → ℕ) (y : ℕ) (
         pick-false (near P kind (1 - 2) y) 0 (le-ltb 2 2 (omega arith)),
       )
 
+  -- each line has line y among its crossing lines where the two meet
+  pub near-with :
+      (p z : ℕ) → p < 2 →
+      near P kind p z ≡ near P (without y kind) p z + pick (eqb (kind y) p) (meets P y z) 0
+  unfolding near
+  near-with p z b =
+      over-number
+      kind
+      (without y kind)
+      y
+      p
+      (λ x n. sym (without-other y kind x n))
+      (λ e. no-way (omega (arith, without-own y kind)))
+      inside
+      z
+
   -- a tally and sums of line y: with it or without
-  module _ {same other : ℕ} (same-is : kind y < 2 → same ≡ near P kind (kind y) y) (other-is : kind y < 2 → other ≡ near P kind (1 - kind y) y) {tally sums tally′ sums′ : List ℕ} (adds : Adds (kind y) (left y) same other tally sums tally′ sums′) where
+  module _ {same other : ℕ} (few : lines P ≤ lineRoom) (same-is : kind y < 2 → same ≡ near P kind (kind y) y) (other-is : kind y < 2 → other ≡ near P kind (1 - kind y) y) {tally tally₁ sums tally′ sums′ : List ℕ} (nears : Nears (kind y) (meets P y) tally tally₁) (adds : Adds (kind y) (left y) same other tally₁ sums tally′ sums′) where
     near-same : (p : ℕ) → p < 2 → pick (eqb (kind y) p) same 0 ≡ pick (eqb (kind y) p) (near P kind p y) 0
     near-same p b =
         by-test
@@ -178,10 +207,11 @@ module _ {P : Pattern} (inside : Inside P) (kind left : ℕ → ℕ) (y : ℕ) (
     pub tied-enters : Tied P (without y kind) left tally sums → Tied P kind left tally′ sums′
     tied-enters tied =
         record {
-          tally-long = adds .tally-long ∙ tied .tally-long;
+          tally-long = adds .tally-long ∙ nears .long ∙ tied .tally-long;
           sums-long = adds .sums-long ∙ tied .sums-long;
           light = tied .light;
-          tally-is = λ p x b d. omega (arith, adds .tally-adds p x b d, tied .tally-is p x b d, tally-with p x b);
+          tally-is = λ p x b d. omega (arith, adds .tally-adds p x b d, nears .tally-stays p x b d, tied .tally-is p x b d, tally-with p x b);
+          near-is = λ p z b d. omega (arith, adds .near-stays p z b (omega arith), nears .near-adds p z b (omega arith), tied .near-is p z b d, near-with p z b);
           left-is = λ p b. omega (arith, adds .left-adds p b, tied .left-is p b, left-with p b);
           both-is = λ p b. omega (arith, adds .both-adds p b, tied .both-is p b, both-with p b, near-same p b);
           torn-is = omega (arith, adds .torn-adds, tied .torn-is, torn-with);
@@ -191,10 +221,11 @@ module _ {P : Pattern} (inside : Inside P) (kind left : ℕ → ℕ) (y : ℕ) (
     pub tied-leaves : Tied P kind left tally′ sums′ → Tied P (without y kind) left tally sums
     tied-leaves tied =
         record {
-          tally-long = sym (adds .tally-long) ∙ tied .tally-long;
+          tally-long = sym (nears .long) ∙ sym (adds .tally-long) ∙ tied .tally-long;
           sums-long = sym (adds .sums-long) ∙ tied .sums-long;
           light = tied .light;
-          tally-is = λ p x b d. omega (arith, adds .tally-adds p x b d, tied .tally-is p x b d, tally-with p x b);
+          tally-is = λ p x b d. omega (arith, adds .tally-adds p x b d, nears .tally-stays p x b d, tied .tally-is p x b d, tally-with p x b);
+          near-is = λ p z b d. omega (arith, adds .near-stays p z b (omega arith), nears .near-adds p z b (omega arith), tied .near-is p z b d, near-with p z b);
           left-is = λ p b. omega (arith, adds .left-adds p b, tied .left-is p b, left-with p b);
           both-is = λ p b. omega (arith, adds .both-adds p b, tied .both-is p b, both-with p b, near-same p b);
           torn-is = omega (arith, adds .torn-adds, tied .torn-is, torn-with);
@@ -203,16 +234,17 @@ module _ {P : Pattern} (inside : Inside P) (kind left : ℕ → ℕ) (y : ℕ) (
 
 -- line y has another number of untaken nonzeros
 pub tied-moves :
-    {P : Pattern} {tally sums tally′ sums′ : List ℕ} (kind left left′ : ℕ → ℕ) (y : ℕ) → y < lines P →
+    {P : Pattern} {tally sums tally′ sums′ : List ℕ} (kind left left′ : ℕ → ℕ) (y : ℕ) → lines P ≤ lineRoom → y < lines P →
     left′ y < weightRoom → ((l : ℕ) → (l ≡ y → ⊥) → left′ l ≡ left l) →
     Moves (kind y) (left y) (left′ y) tally sums tally′ sums′ →
     Tied P kind left tally sums → Tied P kind left′ tally′ sums′
-tied-moves {P} kind left left′ y line small same moves tied =
+tied-moves {P} kind left left′ y few line small same moves tied =
     record {
       tally-long = moves .tally-long ∙ tied .tally-long;
       sums-long = moves .sums-long ∙ tied .sums-long;
       light = λ l b. by-test (eqb l y) (λ e. omega (arith, ap left′ (eqb-true l y e))) (λ e. omega (arith, same l (eqb-false l y e), tied .light l b));
       tally-is = λ p x b d. omega (arith, moves .tally-moves p x b d, tied .tally-is p x b d, tally-change P kind left kind left′ y line (λ l n. refl) same p x);
+      near-is = λ p z b d. moves .near-stays p z b (omega arith) ∙ tied .near-is p z b d;
       left-is = λ p b. omega (arith, moves .left-moves p b, tied .left-is p b, left-change P kind left kind left′ y line (λ l n. refl) same p);
       both-is = λ p b. moves .rest-stays (bothPlace p) (omega arith) (omega arith) ∙ tied .both-is p b;
       torn-is = moves .rest-stays tornPlace (omega arith) (omega arith) ∙ tied .torn-is;

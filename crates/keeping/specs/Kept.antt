@@ -1,6 +1,7 @@
 -- What is kept of a marking: its marks, how many crossing lines of each line are marked 0 and 1 and how many are neither, the kinds of lines,
 -- what is tied to these, the loads and the number of cut lines.
 -- Assumes nothing.
+use mathlib.Core.Bool.{Bool, true, false}
 use mathlib.Core.List.{List}
 use mathlib.Core.Path.{_≡_}
 use Prim.Native.Nat.{ℕ, _+_, _-_, _*_, _≤_, _<_}
@@ -16,7 +17,7 @@ use Rattle.model.specs.Marking.{Marking, markNumber, unmarked, taken}
 use Rattle.model.specs.Bound.{L1}
 use Rattle.crossing.specs.Crossing.{overLine, Laid}
 use Rattle.keeping.specs.Kinds.{cells, kindOf}
-use Rattle.keeping.specs.Tied.{Tied}
+use Rattle.keeping.specs.Tied.{Tied, nearPlace, tallyRoom}
 
 -- how many crossing lines of line y have mark p
 unfoldable pub crossingWith : Pattern → Marking → ℕ → ℕ → ℕ
@@ -29,6 +30,18 @@ crossingOpen P μ y = overLine P y (λ z. bit (leb 2 (μ z)))
 -- how many nonzeros line l and line y share
 unfoldable pub meets : Pattern → ℕ → ℕ → ℕ
 meets P l y = overLine P l (λ z. bit (eqb z y))
+
+-- line y can be counted once more, or once less, among the crossing lines of this kind of each line that it crosses
+pub record Shiftable (starts cross tally : List ℕ) (y kind : ℕ) (up : Bool) : Type 0 where
+  pub pattern : Pattern
+  pub laid : Laid pattern starts cross
+  pub line : y < lines pattern
+  pub tally-long : length tally ≡ tallyRoom
+  pub room :
+      up ≡ true → kind < 2 → (z : ℕ) → z < lines pattern →
+      getD tally (nearPlace kind z) 0 + meets pattern y z < 65536
+  pub some :
+      up ≡ false → kind < 2 → (z : ℕ) → z < lines pattern → meets pattern y z ≤ getD tally (nearPlace kind z) 0
 
 -- no nonzero
 abbrev pub none : ℕ → ℕ

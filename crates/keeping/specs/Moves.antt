@@ -1,13 +1,13 @@
--- How the tally and the sums differ with one line: with and without it, and with one untaken nonzero of it more or less.
+-- How the tally and the sums differ with one line: with and without it, with one untaken nonzero of it more or less, and for its crossing lines.
 -- Assumes nothing.
 use mathlib.Core.List.{List}
 use mathlib.Core.Path.{_≡_}
-use Prim.Native.Nat.{ℕ, _+_, _*_, _≤_, _<_}
+use Prim.Native.Nat.{ℕ, _+_, _≤_, _<_}
 use lib.Dec.{eqb, ltb}
 use lib.ListN.{length, getD}
 use Rattle.counting.specs.Tests.{_and_, pick, bit}
-use Rattle.weighing.specs.Striking.{weightRoom}
-use Rattle.keeping.specs.Tied.{bothPlace, tornPlace, conflictsPlace, tallyPlace}
+use Rattle.model.specs.Limits.{lineRoom}
+use Rattle.keeping.specs.Tied.{weightRoom, bothPlace, tornPlace, conflictsPlace, tallyPlace, nearPlace, tallyRoom}
 
 -- the second list has v more than the first at place i, and is equal to it elsewhere
 pub record Raised (i v : ℕ) (xs ys : List ℕ) : Type 0 where
@@ -25,6 +25,8 @@ pub record Adds (kind own same other : ℕ) (tally sums tally′ sums′ : List 
   pub tally-adds :
       (p x : ℕ) → p < 2 → x < weightRoom →
       getD tally′ (tallyPlace p x) 0 ≡ getD tally (tallyPlace p x) 0 + bit (eqb kind p and eqb own x)
+  pub near-stays :
+      (p z : ℕ) → p < 2 → z < lineRoom → getD tally′ (nearPlace p z) 0 ≡ getD tally (nearPlace p z) 0
   pub left-adds : (p : ℕ) → p < 2 → getD sums′ p 0 ≡ getD sums p 0 + pick (eqb kind p) own 0
   pub both-adds :
       (p : ℕ) → p < 2 → getD sums′ (bothPlace p) 0 ≡ getD sums (bothPlace p) 0 + pick (eqb kind p) same 0
@@ -34,7 +36,7 @@ pub record Adds (kind own same other : ℕ) (tally sums tally′ sums′ : List 
 
 -- a line of this kind can be taken out of the tally and the sums
 pub record Leavable (kind own same other : ℕ) (tally sums : List ℕ) : Type 0 where
-  pub tally-long : length tally ≡ 2 * weightRoom
+  pub tally-long : length tally ≡ tallyRoom
   pub sums-long : length sums ≡ 6
   pub light : own < weightRoom
   pub tally-some : kind < 2 → 1 ≤ getD tally (tallyPlace kind own) 0
@@ -45,7 +47,7 @@ pub record Leavable (kind own same other : ℕ) (tally sums : List ℕ) : Type 0
 
 -- a line can be counted in the tally and the sums
 pub record Enterable (own same other : ℕ) (tally sums : List ℕ) : Type 0 where
-  pub tally-long : length tally ≡ 2 * weightRoom
+  pub tally-long : length tally ≡ tallyRoom
   pub sums-long : length sums ≡ 6
   pub light : own < weightRoom
   pub same-few : same < 65536
@@ -55,7 +57,7 @@ pub record Enterable (own same other : ℕ) (tally sums : List ℕ) : Type 0 whe
 
 -- a line of this kind can get another number of untaken nonzeros
 pub record Movable (kind from to : ℕ) (tally sums : List ℕ) : Type 0 where
-  pub tally-long : length tally ≡ 2 * weightRoom
+  pub tally-long : length tally ≡ tallyRoom
   pub sums-long : length sums ≡ 6
   pub from-light : from < weightRoom
   pub to-light : to < weightRoom
@@ -72,6 +74,17 @@ pub record Moves (kind from to : ℕ) (tally sums tally′ sums′ : List ℕ) :
       (p x : ℕ) → p < 2 → x < weightRoom →
       getD tally′ (tallyPlace p x) 0 + bit (eqb kind p and eqb from x)
       ≡ getD tally (tallyPlace p x) 0 + bit (eqb kind p and eqb to x)
+  pub near-stays :
+      (p z : ℕ) → p < 2 → z < lineRoom → getD tally′ (nearPlace p z) 0 ≡ getD tally (nearPlace p z) 0
   pub left-moves :
       (p : ℕ) → p < 2 → getD sums′ p 0 + pick (eqb kind p) from 0 ≡ getD sums p 0 + pick (eqb kind p) to 0
   pub rest-stays : (i : ℕ) → 2 ≤ i → i < 6 → getD sums′ i 0 ≡ getD sums i 0
+
+-- the second tally has for each line so many crossing lines of this kind more than the first
+pub record Nears (kind : ℕ) (much : ℕ → ℕ) (tally tally′ : List ℕ) : Type 0 where
+  pub long : length tally′ ≡ length tally
+  pub tally-stays :
+      (p x : ℕ) → p < 2 → x < weightRoom → getD tally′ (tallyPlace p x) 0 ≡ getD tally (tallyPlace p x) 0
+  pub near-adds :
+      (p z : ℕ) → p < 2 → z < lineRoom →
+      getD tally′ (nearPlace p z) 0 ≡ getD tally (nearPlace p z) 0 + pick (eqb kind p) (much z) 0

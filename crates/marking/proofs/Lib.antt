@@ -4,3 +4,5 @@ pub mod Counts
 pub mod Filled
 pub mod Marked
 pub mod Ordered
+pub mod Keyed
+pub mod Sorted

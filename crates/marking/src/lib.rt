@@ -1,3 +1,4 @@
 // Markings in code: the order of lines, and the marks of lines.
 pub mod marks;
 pub mod order;
+pub mod placing;

@@ -46,13 +46,6 @@ pub fn less(x: usize, y: usize) -> usize
     if x < y { 0 } else { x - y }
 }
 
-// The difference of two numbers of two bytes, and 0 where it would fall below.
-pub fn less16(x: u16, y: u16) -> u16
-    ensures { λ r. ⌜ r ≡ x - y ⌝ }
-{
-    if x < y { 0 } else { x - y }
-}
-
 // The byte at a place of a list, or another past its end.
 pub fn byte_or(list: &[u8], at: usize, none: u8) -> u8
     ensures { λ r. ⌜ r ≡ getD (now (list .entry)) at none ⌝ }

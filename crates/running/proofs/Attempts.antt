@@ -1,21 +1,22 @@
 -- A try with one mark more: what it answers, and what is kept after it.
 -- Assumes nothing.
 use mathlib.Core.Bool.{true, false}
-use mathlib.Core.List.{List, _∷_}
+use mathlib.Core.List.{List, [], _∷_}
 use mathlib.Core.Path.{_≡_, sym, _∙_, ap, subst}
-use Prim.Native.Nat.{ℕ, _≤_, _<_}
+use Prim.Native.Nat.{ℕ, _≤_, _<_, min}
 use native.Mathlib.Omega.{arith}
 use lib.Dec.{ltb}
 use lib.ListN.{length}
+use borrow.Author.Tests.{lt-ltb, ltb-true}
 use Rattle.counting.specs.Tests.{_and_, pick}
-use Rattle.counting.proofs.Joined.{and-passed, and-fails-left, pick-true, pick-false}
+use Rattle.counting.proofs.Joined.{both-ways, and-passed, and-fails-left, pick-true, pick-false}
 use Rattle.model.specs.declared.Caps.{Caps}
 use Rattle.model.specs.Limits.{lineLimit}
 use Rattle.model.specs.Pattern.{Pattern, Inside, lines, lineCount}
 use Rattle.model.specs.Marking.{marking, unmarked, valid}
 use Rattle.model.specs.Bound.{bound}
 use Rattle.model.specs.Matching.{looks}
-use Rattle.model.specs.Walk.{rulesOf, looksAt}
+use Rattle.model.specs.Walk.{rulesOf, looksAt, leastBound}
 use Rattle.model.proofs.Order.Places.{line-at}
 use Rattle.model.proofs.Theorems.OfList.{rules-k, rules-valid}
 use Rattle.keeping.specs.Kept.{markingWith, Holds}
@@ -24,6 +25,27 @@ use Rattle.running.specs.declared.walking.Tried.{Tried}
 use Rattle.running.specs.Judging.{Topped}
 use Rattle.running.specs.Walking.{Next, Attempted}
 use Rattle.running.proofs.Behind.{standing-longer, marking-next, next-free, next-valid, next-topped}
+
+-- the least of a number and a count is below the count exactly if the number is
+least-below : (x best : ℕ) → ltb (min x best) best ≡ ltb x best
+least-below x best =
+    both-ways
+    (ltb (min x best) best)
+    (ltb x best)
+    (λ h. let b : min x best < best = ltb-true (min x best) best h in lt-ltb x best (omega arith))
+    (λ h. let b : x < best = ltb-true x best h in lt-ltb (min x best) best (omega arith))
+
+-- the least of a count and the bound of one marking, where that is valid and where it is not
+pub least-fit :
+    (P : Pattern) (caps : Caps) (ρ : List ℕ) (best : ℕ) {r : ℕ} → valid P caps (marking P ρ) ≡ true → r ≡ min (bound P caps (marking P ρ)) best →
+    r ≡ leastBound (rulesOf P caps) best (ρ ∷ [])
+unfolding rulesOf leastBound
+least-fit P caps ρ best fits e = e ∙ sym (pick-true (min (bound P caps (marking P ρ)) best) best fits)
+
+pub least-unfit :
+    (P : Pattern) (caps : Caps) (ρ : List ℕ) {best : ℕ} → valid P caps (marking P ρ) ≡ false → best ≡ leastBound (rulesOf P caps) best (ρ ∷ [])
+unfolding rulesOf leastBound
+least-unfit P caps ρ {best} unfit = sym (pick-false (min (bound P caps (marking P ρ)) best) best unfit)
 
 module _ {P : Pattern} {caps : Caps} {τ : List ℕ} {l p : ℕ} (inside : Inside P) (n : Next P caps τ l p) where
   -- the next line is one of the pattern
@@ -76,14 +98,17 @@ module _ {P : Pattern} {caps : Caps} {τ : List ℕ} {l p : ℕ} (inside : Insid
 
     -- it fits, and the bound decides
     pub attempt-fit :
-        valid P caps (marking P (p ∷ τ)) ≡ true → r .stands ≡ ltb (bound P caps (marking P (p ∷ τ))) best →
+        valid P caps (marking P (p ∷ τ)) ≡ true → (least : ℕ) → least ≡ min (bound P caps (marking P (p ∷ τ))) best → r .stands ≡ ltb least best →
         r .looks ≡ looks P (marking P (p ∷ τ)) →
         Holds P (marking P (pick (r .stands) (p ∷ τ) τ)) marks by left kinds tally sums loads →
         Attempted P caps τ p best r marks by left kinds tally sums loads
     unfolding rulesOf looksAt
-    attempt-fit fits up looked h =
+    attempt-fit fits least is up looked h =
         record {
-          stands-is = up ∙ sym (and-passed (ltb (bound P caps (marking P (p ∷ τ))) best) fits);
+          stands-is = up
+              ∙ ap (λ (x : ℕ). ltb x best) is
+              ∙ least-below (bound P caps (marking P (p ∷ τ))) best
+              ∙ sym (and-passed (ltb (bound P caps (marking P (p ∷ τ))) best) fits);
           looks-is = looked ∙ sym (pick-true (looks P (marking P (p ∷ τ))) 0 fits);
           holds = h;
         }

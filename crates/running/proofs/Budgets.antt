@@ -4,7 +4,7 @@ use mathlib.Core.Bool.{Bool, true, false}
 use mathlib.Core.List.{List, [], _∷_}
 use mathlib.Core.Path.{_≡_, refl, sym, _∙_, ap, subst}
 use Prim.Native.Nat.{ℕ, _+_, _*_, _≤_, _<_}
-use lib.Dec.{ltb}
+use lib.Dec.{ltb, leb}
 use native.Mathlib.Omega.{arith}
 use borrow.Author.Tests.{lt-ltb, le-ltb, ltb-false, leb-true, eqb-true, not-true}
 use Rattle.counting.specs.Tests.{_or_}
@@ -17,10 +17,11 @@ use Rattle.model.specs.declared.RunAnswer.{RunAnswer}
 use Rattle.model.specs.declared.RunAnswer.the-variants as run-answer
 use Rattle.model.specs.declared.Ran.{Ran}
 use Rattle.model.specs.declared.Search.{Search}
-use Rattle.model.specs.Limits.{budgetLimit, triesLimit}
-use Rattle.model.specs.Pattern.{Pattern, patternOf, lineTotal}
-use Rattle.model.specs.Walk.{Record, Rules, rulesOf, isEmpty, walk}
-use Rattle.model.specs.State.{capsIn, recordOf, searchOf, trailFine, stateFine}
+use lib.ListN.{getD}
+use Rattle.model.specs.Limits.{lineRoom, budgetLimit, triesLimit}
+use Rattle.model.specs.Pattern.{Pattern, patternOf, lineCount, lineTotal}
+use Rattle.model.specs.Walk.{Record, Rules, rulesOf, isEmpty, walk, floor}
+use Rattle.model.specs.State.{capsIn, recordOf, searchOf, countsFine, trailFine, bestFine, stateFine}
 use Rattle.model.specs.Calls.{ended, ranRecord, ranAfter}
 use Rattle.model.proofs.Theorems.Checks.{refuse-not, refuse-so, refuse-no}
 use Rattle.state.specs.Holding.{normalOf}
@@ -100,7 +101,16 @@ fine-going R m n nonzeros r h =
     let g = trail-going R (r .complete) (r .trail) (and-right _ _ (and-left _ _ h)) in
     record { legal = g .0; ended = g .1 }
 
-module _ (rows columns size : ℕ) (list places starts : List ℕ) (k : ℕ) (s from : Search) (t : Tryable rows columns size list places starts k s) (f : from ≡ normalOf s) where
+-- its tries are in range
+fine-tries : (R : Rules) (m n nonzeros : ℕ) (r : Record) → stateFine R m n nonzeros r ≡ true → r .tries ≤ triesLimit
+unfolding stateFine countsFine
+fine-tries R m n nonzeros r h =
+    leb-true
+    (r .tries)
+    triesLimit
+    (and-left _ (leb (r .looks) (r .tries * m * nonzeros)) (and-right _ (countsFine (r .tries) (r .looks) m nonzeros) (and-left _ (trailFine R (r .complete) (r .trail)) (and-left _ (bestFine R (r .best) (r .bestCount) (r .complete)) h))))
+
+module _ (rows columns size : ℕ) (list counts places starts : List ℕ) (k : ℕ) (s from : Search) (t : Tryable rows columns size list counts places starts k s) (f : from ≡ normalOf s) where
   fits : Fits k (recordOf s)
   fits = ready-fits rows columns size list places starts k s (t .ready) (t .fine)
 
@@ -108,7 +118,7 @@ module _ (rows columns size : ℕ) (list places starts : List ℕ) (k : ℕ) (s 
   is-record : from ≡ searchOf (recordOf s)
   is-record = f ∙ fine-normal s k (t .ready .few) fits
 
-  same-record : recordOf from ≡ recordOf s
+  pub same-record : recordOf from ≡ recordOf s
   same-record = ap recordOf is-record ∙ fits-back k (recordOf s) (t .ready .few) fits
 
   -- with the list's sizes
@@ -125,7 +135,7 @@ module _ (rows columns size : ℕ) (list places starts : List ℕ) (k : ℕ) (s 
       ap (λ (x : ℕ). patternOf rows x (from .nonzeros) list) same-columns
       ∙ ap (λ (x : ℕ). patternOf rows columns x list) same-size
 
-  same-rules : rulesIn from rows list ≡ rulesOf (patternOf rows columns size list) (capsIn s)
+  pub same-rules : rulesIn from rows list ≡ rulesOf (patternOf rows columns size list) (capsIn s)
   same-rules =
       ap (λ (P : Pattern). rulesOf P (capsIn from)) same-pattern
       ∙ ap (rulesOf (patternOf rows columns size list)) (normal-caps s from f)
@@ -161,10 +171,12 @@ module _ (rows columns size : ℕ) (list places starts : List ℕ) (k : ℕ) (s 
         looked = from-looked;
       }
 
-  pub from-readied : (budget : ℕ) → s .tries + budget ≤ triesLimit → Readied from rows columns size list places starts k budget
+  pub from-readied : (budget : ℕ) → s .tries + budget ≤ triesLimit → Readied from rows columns size list counts places starts k budget
   from-readied budget room =
       record {
         startable = from-startable budget room;
+        counts-long = t .counts-long;
+        counted = subst (λ (P : Pattern). (l : ℕ) → l < lineRoom → getD counts l 0 ≡ lineCount P l) (sym same-pattern) (t .counted);
         columns-are = sym same-columns;
         size-is = sym same-size;
         placed = subst (λ (P : Pattern). Placed P places) (sym same-pattern) (t .ready .placed);
@@ -183,6 +195,16 @@ module _ (rows columns size : ℕ) (list places starts : List ℕ) (k : ℕ) (s 
       ap (λ (x : RunAnswer). ranBy x after) d
       ∙ ap (λ (x : Search). ranBy (ended (x .complete) (x .looks)) x) w
       ∙ ap (λ (x : Verdict). ranAfter x s P budget) (sym a ∙ e)
+
+  -- its floor is that of the search
+  pub floor-readied : Readied from rows columns size list counts places starts (lineTotal (patternIn from rows list)) 0
+  unfolding recordOf
+  floor-readied =
+      let r = from-readied 0 (omega (arith, fine-tries _ rows columns size (recordOf s) (t .fine))) in
+      subst (λ (x : ℕ). Readied from rows columns size list counts places starts x 0) (r .startable .total) r
+
+  pub floor-taken : (r : ℕ) → r ≡ floor (rulesIn from rows list) (recordOf from) → r ≡ floor (rulesOf (patternOf rows columns size list) (capsIn s)) (recordOf s)
+  floor-taken r e = e ∙ ap (λ (R : Rules). floor R (recordOf from)) same-rules ∙ ap (floor (rulesOf (patternOf rows columns size list) (capsIn s))) same-record
 
 -- a refused one
 pub run-refused :

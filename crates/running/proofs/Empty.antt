@@ -20,11 +20,10 @@ use Rattle.model.specs.Bound.{L1}
 use Rattle.model.proofs.Bound.Conditions.{cut-is}
 use Rattle.model.proofs.Order.Marks.{mark-none}
 use Rattle.model.proofs.Order.RulesSound.{takes-none}
-use Rattle.weighing.specs.Striking.{weightRoom}
 use Rattle.crossing.specs.Crossing.{overLine}
 use Rattle.crossing.proofs.Over.{over-eq, over-one, row-inside}
-use Rattle.keeping.specs.Kinds.{cells, kindOf, tallyOf, leaningLeft, pairs, bothAre, apart, tornOf}
-use Rattle.keeping.specs.Tied.{Tied, tallyPlace, bothPlace, tornPlace, conflictsPlace}
+use Rattle.keeping.specs.Kinds.{cells, kindOf, tallyOf, leaningLeft, pairs, bothAre, apart, tornOf, near}
+use Rattle.keeping.specs.Tied.{Tied, tallyPlace, nearPlace, tallyRoom, bothPlace, tornPlace, conflictsPlace}
 use Rattle.keeping.specs.Kept.{crossingWith, crossingOpen, none, Counted, Agree, Holds}
 use Rattle.keeping.proofs.Marked.{pick-zero}
 use Rattle.running.specs.Arrays.{Zeros, Neutral}
@@ -47,7 +46,7 @@ pub record Blank (P : Pattern) (marks by left kinds tally sums loads : List ℕ)
   pub left-long : length left ≡ lineRoom
   pub counted : (l : ℕ) → l < lines P → getD left l 0 ≡ lineCount P l
   pub unleaning : Neutral kinds
-  pub untallied : Zeros (2 * weightRoom) tally
+  pub untallied : Zeros tallyRoom tally
   pub unsummed : Zeros 6 sums
   pub unloaded : Zeros 3 loads
 
@@ -56,13 +55,15 @@ module _ {P : Pattern} (inside : Inside P) (few : lines P ≤ lineRoom) (thin : 
   kind-not l p b n = ne-eqb (getD kinds l 0) p (λ e. n (sym (o .unleaning .neutral l (omega arith)) ∙ e))
 
   tied-none : Tied P (cells kinds) (cells left) tally sums
-  unfolding tallyOf leaningLeft pairs bothAre apart tornOf
+  unfolding tallyOf leaningLeft pairs bothAre apart tornOf near
   tied-none =
       record {
         tally-long = o .untallied .long;
         sums-long = o .unsummed .long;
         light = λ l b. omega (arith, o .counted l b, thin l);
         tally-is = λ p x b c. o .untallied .zero-at (tallyPlace p x) ∙ sym (count-none _ (lines P) (λ l d. and-fails-left _ (kind-not l p d (λ e. no-way (omega arith)))));
+        near-is = λ p y b c. o .untallied .zero-at (nearPlace p y)
+            ∙ sym (over-eq inside y (λ z. bit (eqb (getD kinds z 0) p)) (λ z. 0) (λ z d. bit-false _ (kind-not z p d (λ e. no-way (omega arith)))) ∙ over-none P y);
         left-is = λ p b. o .unsummed .zero-at p ∙ sym (sum-zero _ (lines P) (λ l d. pick-false (getD left l 0) 0 (kind-not l p d (λ e. no-way (omega arith)))));
         both-is = λ p b. o .unsummed .zero-at (bothPlace p)
             ∙ sym (sum-zero _ (P .size) (λ t d. bit-false _ (and-fails-left _ (kind-not (rowLine P t) p (row-inside inside t d) (λ e. no-way (omega arith))))));

@@ -7,5 +7,12 @@ pub mod Placed
 pub mod Attempts
 pub mod Walked
 pub mod Beginnings
+pub mod Openings
+pub mod Floored
 pub mod Budgets
 pub mod Answered
+pub mod Shows
+pub mod Splits
+pub mod Firsts
+pub mod StruckFew
+pub mod Evaluated

@@ -3,3 +3,5 @@ pub mod Arrays
 pub mod Judging
 pub mod Walking
 pub mod Run
+pub mod Showing
+pub mod Evaluating

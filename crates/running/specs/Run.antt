@@ -4,22 +4,24 @@ use mathlib.Core.Bool.{Bool, true}
 use mathlib.Core.List.{List}
 use mathlib.Core.Option.{some}
 use mathlib.Core.Path.{_≡_}
-use Prim.Native.Nat.{ℕ, _+_, _*_, _≤_}
-use lib.ListN.{length}
+use Prim.Native.Nat.{ℕ, _+_, _*_, _≤_, _<_}
+use lib.ListN.{length, getD}
 use Rattle.trail.specs.Trail.{markRoom}
 use Rattle.trail.specs.declared.Trail.{Trail}
+use Rattle.model.specs.declared.Caps.{Caps}
 use Rattle.model.specs.declared.Search.{Search}
-use Rattle.model.specs.Limits.{triesLimit}
-use Rattle.model.specs.Pattern.{Pattern, patternOf, lineTotal}
+use Rattle.model.specs.Limits.{lineRoom, triesLimit}
+use Rattle.model.specs.Pattern.{Pattern, patternOf, lineCount, lineTotal}
 use Rattle.model.specs.Marking.{marking}
 use Rattle.model.specs.Walk.{Record, Rules, rulesOf, isEmpty}
-use Rattle.model.specs.State.{trailOf, isFound, bestOr, capsIn, recordOf, searchOf, stateFine}
+use Rattle.model.specs.State.{marksIn, trailOf, isFound, bestOr, capsIn, recordOf, searchOf, stateFine}
 use Rattle.model.proofs.Walk.Legal.{Legal}
 use Rattle.packing.specs.declared.PackedTrail.{PackedTrail}
 use Rattle.packing.specs.Packed.{earlier, Packs}
 use Rattle.bound.specs.Evaluated.{Listed, Placed}
 use Rattle.keeping.specs.Kept.{Holds}
 use Rattle.state.specs.Ready.{Ready}
+use Rattle.running.specs.declared.beginning.Kept.{Kept}
 use Rattle.running.specs.Walking.{Tabled}
 
 -- a record of the walk between two tries: its trail packed, its best marking, best count and looks, and what is kept of its marks but the last
@@ -51,20 +53,35 @@ pub record Startable (s : Search) (m : ℕ) (list rows : List ℕ) (k budget : �
   pub best-fits : (τ : List ℕ) → recordOf s .best ≡ some τ → length τ ≤ k
   pub looked : s .looks ≤ s .tries * (m * s .nonzeros)
 
--- the same, with the tables of its lines and all that is kept of its trail but the last mark
+-- a trail whose marks but the last can be placed, with the tables of its pattern
+pub record Keepable (trail : Trail) (counts starts cross order : List ℕ) : Type 0 where
+  pub pattern : Pattern
+  pub caps : Caps
+  pub tabled : Tabled pattern counts starts cross order
+  pub legal : Legal (rulesOf pattern caps) (marksIn trail)
+
+-- all that is kept of these marks, as one value
+abbrev pub Keeps : Pattern → List ℕ → Kept → Type 0
+Keeps P τ k = Holds P (marking P τ) (k .marks) (k .by) (k .left) (k .kinds) (k .tally) (k .sums) (k .loads)
+
+-- a search that is not refused, with the tables of its lines and all that is kept of its trail but the last mark
 pub record Walkable (s : Search) (m : ℕ) (list rows counts starts cross order marks by left kinds tally sums loads : List ℕ) (k budget : ℕ) : Type 0 where
   pub startable : Startable s m list rows k budget
   pub tabled : Tabled (patternIn s m list) counts starts cross order
   pub holds : Holds (patternIn s m list) (marking (patternIn s m list) (earlier (recordOf s .trail))) marks by left kinds tally sums loads
 
 -- a search that is not refused, with the tables of its list at hand, and room for the tries to be made
-pub record Readied (s : Search) (m n nonzeros : ℕ) (list places rows : List ℕ) (k budget : ℕ) : Type 0 where
+pub record Readied (s : Search) (m n nonzeros : ℕ) (list counts places rows : List ℕ) (k budget : ℕ) : Type 0 where
   pub startable : Startable s m list rows k budget
+  pub counts-long : length counts ≡ lineRoom
+  pub counted : (l : ℕ) → l < lineRoom → getD counts l 0 ≡ lineCount (patternIn s m list) l
   pub columns-are : n ≡ s .n
   pub size-is : nonzeros ≡ s .nonzeros
   pub placed : Placed (patternIn s m list) places
 
 -- what a run is made on: the tables of an accepted list, and a state that is not refused
-pub record Tryable (m n nonzeros : ℕ) (list places rows : List ℕ) (k : ℕ) (s : Search) : Type 0 where
+pub record Tryable (m n nonzeros : ℕ) (list counts places rows : List ℕ) (k : ℕ) (s : Search) : Type 0 where
   pub ready : Ready m n nonzeros list places rows k
+  pub counts-long : length counts ≡ lineRoom
+  pub counted : (l : ℕ) → l < lineRoom → getD counts l 0 ≡ lineCount (patternOf m n nonzeros list) l
   pub fine : stateFine (rulesOf (patternOf m n nonzeros list) (capsIn s)) m n nonzeros (recordOf s) ≡ true

@@ -8,6 +8,7 @@ use lib.Dec.{ltb}
 use lib.ListN.{length, getD}
 use Rattle.counting.specs.Tests.{_and_, pick}
 use Rattle.model.specs.declared.Caps.{Caps}
+use Rattle.model.specs.Limits.{lineRoom}
 use Rattle.model.specs.Pattern.{Pattern, patternOf, lines, lineCount, lineTotal}
 use Rattle.model.specs.Marking.{marking}
 use Rattle.model.specs.Walk.{Rules, rulesOf, looksAt}
@@ -25,10 +26,17 @@ pub record Standing (R : Rules) (τ : List ℕ) : Type 0 where
   pub fits : R .valid τ ≡ true
   pub before : beginningsValid R τ ≡ true
 
--- the tables of a pattern's lines: nonzero counts, crossing lines and the order
+-- the tables of a pattern's lines: nonzero counts and crossing lines
+pub record LineTables (P : Pattern) (counts starts cross : List ℕ) : Type 0 where
+  pub laid : Laid P starts cross
+  pub counts-long : length counts ≡ lineRoom
+  pub counts-are : (l : ℕ) → l < lines P → getD counts l 0 ≡ lineCount P l
+
+-- these tables and the order
 pub record Tabled (P : Pattern) (counts starts cross order : List ℕ) : Type 0 where
   pub laid : Laid P starts cross
   pub ordered : Ordered P order
+  pub counts-long : length counts ≡ lineRoom
   pub counts-are : (l : ℕ) → l < lines P → getD counts l 0 ≡ lineCount P l
 
 -- line l gets mark p behind the marks τ

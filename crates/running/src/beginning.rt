@@ -1,4 +1,4 @@
-// A run begins: tables of its pattern are made, and the marks of its trail but the last are placed.
+// A run or a floor begins: the marks of the trail but the last are placed, on arrays that keep what is known of them.
 use crate::room::BY_ROOM;
 use crate::room::LOAD_ROOM;
 use crate::room::SUM_ROOM;
@@ -10,22 +10,26 @@ use crossing::laying::crossings;
 use crossing::ordering::order_of;
 use crossing::starting::line_starts;
 use marking::marks::unmarked_lines;
-use marking::order::line_counts;
 use model::Search;
 use model::limits::LINE_ROOM;
 use model::limits::SIDE_ENDS;
 use pattern::reading::less;
 use pattern::room::lines_of;
+use trail::Trail;
+ghost use mathlib.Core.List.{List, []};
 ghost use mathlib.Core.Path.{_≡_};
-ghost use Prim.Native.Nat.{_*_};
-ghost use lib.ListN.{length};
+ghost use Prim.Native.Nat.{ℕ, _*_};
 ghost use Rattle.model.specs.Limits.{lineRoom};
-ghost use Rattle.model.specs.Walk.{walk};
-ghost use Rattle.model.specs.State.{recordOf, searchOf};
-ghost use Rattle.weighing.specs.Striking.{weightRoom};
+ghost use Rattle.model.specs.declared.Caps.{Caps};
+ghost use Rattle.model.specs.Pattern.{Pattern};
+ghost use Rattle.model.specs.Walk.{rulesOf, walk};
+ghost use Rattle.model.specs.State.{marksIn, recordOf, searchOf};
+ghost use Rattle.model.proofs.Walk.Legal.{Legal};
+ghost use Rattle.packing.specs.Packed.{earlier};
+ghost use Rattle.keeping.specs.Tied.{tallyRoom};
 ghost use Rattle.running.specs.Arrays.{Zeros, Neutral};
-ghost use Rattle.running.specs.Walking.{Tabled};
-ghost use Rattle.running.specs.Run.{patternIn, rulesIn, Startable, Readied};
+ghost use Rattle.running.specs.Walking.{LineTables, Tabled};
+ghost use Rattle.running.specs.Run.{patternIn, rulesIn, Startable, Keepable, Keeps, Readied};
 
 // No crossing line is marked.
 fn none_by() -> [u16; BY_ROOM]
@@ -41,9 +45,9 @@ fn no_kinds() -> [u8; LINE_ROOM]
     [2u8; LINE_ROOM]
 }
 
-// No line is counted by its weight.
+// No line is counted by its weight, and no crossing line that leans.
 fn no_tally() -> [u16; TALLY_ROOM]
-    ensures { λ r. ⌜ Zeros (2 * weightRoom) r ⌝ }
+    ensures { λ r. ⌜ Zeros tallyRoom r ⌝ }
 {
     [0u16; TALLY_ROOM]
 }
@@ -62,31 +66,59 @@ fn no_loads() -> [u16; LOAD_ROOM]
     [0u16; LOAD_ROOM]
 }
 
-// So many tries from a search, with the tables of its pattern.
-fn walk_from(
-    search: Search,
-    m: u16,
-    list: &[u8],
-    rows: &[u16; SIDE_ENDS],
+// What is kept of a trail.
+pub(crate) struct Kept {
+    pub marks: [u8; LINE_ROOM],
+    pub by: [u16; BY_ROOM],
+    pub left: [u16; LINE_ROOM],
+    pub kinds: [u8; LINE_ROOM],
+    pub tally: [u16; TALLY_ROOM],
+    pub sums: [u32; SUM_ROOM],
+    pub loads: [u16; LOAD_ROOM],
+}
+
+// What is kept of no marks: each line has all its nonzeros left.
+pub(crate) fn none_kept(counts: &[u16; LINE_ROOM]) -> Kept
+    ensures { λ r. ⌜ ((P : Pattern) (starts cross : List ℕ) → LineTables P (now (counts .entry)) starts cross → Keeps P [] r) ⌝ }
+{
+    let marks = unmarked_lines();
+    let by = none_by();
+    let left = *counts;
+    let kinds = no_kinds();
+    let tally = no_tally();
+    let sums = no_sums();
+    let loads = no_loads();
+    Kept {
+        marks,
+        by,
+        left,
+        kinds,
+        tally,
+        sums,
+        loads,
+    }
+}
+
+// All that is kept of a trail but the last mark, with the tables of its pattern.
+pub(crate) fn kept_of(
+    trail: Trail,
     counts: &[u16; LINE_ROOM],
     starts: &[u16; LINE_ROOM],
     cross: &[u16; CROSS_ROOM],
     order: &[u16; LINE_ROOM],
-    k: u16,
-    budget: u64,
-) -> Search
-    requires { ⌜ Startable search m (now list) (now rows) k budget × (length (now counts) ≡ lineRoom)
-        × Tabled (patternIn search m (now list)) (now counts) (now starts) (now cross) (now order) ⌝ }
-    ensures { λ s. ⌜ s ≡ searchOf (walk (rulesIn search m (now (list .entry))) budget (recordOf search)) ⌝ }
+) -> Kept
+    requires { ⌜ Keepable trail (now counts) (now starts) (now cross) (now order) ⌝ }
+    ensures { λ r. ⌜ ((P : Pattern) (caps : Caps) → Tabled P (now (counts .entry)) (now (starts .entry)) (now (cross .entry)) (now (order .entry)) →
+        Legal (rulesOf P caps) (marksIn trail) → Keeps P (earlier (marksIn trail)) r) ⌝ }
 {
-    let mut marks = unmarked_lines();
-    let mut by = none_by();
-    let mut left = *counts;
-    let mut kinds = no_kinds();
-    let mut tally = no_tally();
-    let mut sums = no_sums();
-    let mut loads = no_loads();
-    let trail = search.trail;
+    let none = none_kept(counts);
+    let mut marks = none.marks;
+    let mut by = none.by;
+    let mut left = none.left;
+    let mut kinds = none.kinds;
+    let mut tally = none.tally;
+    let mut sums = none.sums;
+    let mut loads = none.loads;
     let tried = trail.marks;
     let end = less(trail.len, 1);
     lay(
@@ -103,6 +135,41 @@ fn walk_from(
         &mut loads,
         end,
     );
+    Kept {
+        marks,
+        by,
+        left,
+        kinds,
+        tally,
+        sums,
+        loads,
+    }
+}
+
+// So many tries from a search, with the tables of its pattern.
+fn walk_from(
+    search: Search,
+    m: u16,
+    list: &[u8],
+    rows: &[u16; SIDE_ENDS],
+    counts: &[u16; LINE_ROOM],
+    starts: &[u16; LINE_ROOM],
+    cross: &[u16; CROSS_ROOM],
+    order: &[u16; LINE_ROOM],
+    k: u16,
+    budget: u64,
+) -> Search
+    requires { ⌜ Startable search m (now list) (now rows) k budget × Tabled (patternIn search m (now list)) (now counts) (now starts) (now cross) (now order) ⌝ }
+    ensures { λ s. ⌜ s ≡ searchOf (walk (rulesIn search m (now (list .entry))) budget (recordOf search)) ⌝ }
+{
+    let kept = kept_of(search.trail, counts, starts, cross, order);
+    let mut marks = kept.marks;
+    let mut by = kept.by;
+    let mut left = kept.left;
+    let mut kinds = kept.kinds;
+    let mut tally = kept.tally;
+    let mut sums = kept.sums;
+    let mut loads = kept.loads;
     walk_on(
         search,
         m,
@@ -131,17 +198,17 @@ pub(crate) fn run_from(
     n: u16,
     nonzeros: u16,
     list: &[u8],
+    counts: &[u16; LINE_ROOM],
     places: &[u16; LINE_ROOM],
     rows: &[u16; SIDE_ENDS],
     k: u16,
     budget: u64,
 ) -> Search
-    requires { ⌜ Readied search m n nonzeros (now list) (now places) (now rows) k budget ⌝ }
+    requires { ⌜ Readied search m n nonzeros (now list) (now counts) (now places) (now rows) k budget ⌝ }
     ensures { λ s. ⌜ s ≡ searchOf (walk (rulesIn search m (now (list .entry))) budget (recordOf search)) ⌝ }
 {
     let lines = lines_of(m, n);
-    let counts = line_counts(m, n, nonzeros, list);
-    let starts = line_starts(&counts, lines);
+    let starts = line_starts(counts, lines);
     let cross = crossings(m, n, nonzeros, list, &starts);
     let order = order_of(places, lines);
     walk_from(
@@ -149,7 +216,7 @@ pub(crate) fn run_from(
         m,
         list,
         rows,
-        &counts,
+        counts,
         &starts,
         &cross,
         &order,

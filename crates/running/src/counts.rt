@@ -6,7 +6,7 @@ use crate::tally::move_down;
 use crate::tally::move_up;
 use model::limits::LINE_ROOM;
 ghost use mathlib.Core.Path.{_≡_};
-ghost use Prim.Native.Nat.{_+_, _-_, _*_, _<_};
+ghost use Prim.Native.Nat.{_+_, _-_, _*_, _≤_, _<_};
 ghost use lib.ListN.{getD, set};
 ghost use Rattle.model.specs.Limits.{lineRoom};
 ghost use Rattle.model.specs.Pattern.{Pattern, lines};
@@ -26,7 +26,7 @@ pub(crate) fn take_one(
     requires { ⌜ Takeable (now by) (now left) (now kinds) (now tally) (now sums) y p ⌝ }
     ensures { λ _. ⌜ (now (by .exit) ≡ set (now (by .entry)) (lineRoom * p + y) (getD (now (by .entry)) (lineRoom * p + y) 0 + 1))
         × (now (left .exit) ≡ set (now (left .entry)) y (getD (now (left .entry)) y 0 - 1))
-        × ((P : Pattern) → y < lines P →
+        × ((P : Pattern) → lines P ≤ lineRoom → y < lines P →
         Tied P (cells (now (kinds .entry))) (cells (now (left .entry))) (now (tally .entry)) (now (sums .entry)) →
         Tied P (cells (now (kinds .entry))) (cells (now (left .exit))) (now (tally .exit)) (now (sums .exit))) ⌝ }
 {
@@ -50,7 +50,7 @@ pub(crate) fn give_one(
     requires { ⌜ Givable (now by) (now left) (now kinds) (now tally) (now sums) y p ⌝ }
     ensures { λ _. ⌜ (now (by .exit) ≡ set (now (by .entry)) (lineRoom * p + y) (getD (now (by .entry)) (lineRoom * p + y) 0 - 1))
         × (now (left .exit) ≡ set (now (left .entry)) y (getD (now (left .entry)) y 0 + 1))
-        × ((P : Pattern) → y < lines P →
+        × ((P : Pattern) → lines P ≤ lineRoom → y < lines P →
         Tied P (cells (now (kinds .entry))) (cells (now (left .entry))) (now (tally .entry)) (now (sums .entry)) →
         Tied P (cells (now (kinds .entry))) (cells (now (left .exit))) (now (tally .exit)) (now (sums .exit))) ⌝ }
 {

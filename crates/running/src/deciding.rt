@@ -18,25 +18,23 @@ use pattern::reading::wide32;
 ghost use mathlib.Core.Bool.{true};
 ghost use mathlib.Core.List.{List};
 ghost use mathlib.Core.Path.{_≡_};
-ghost use Prim.Native.Nat.{ℕ, _≤_, _<_};
-ghost use lib.Dec.{ltb};
+ghost use Prim.Native.Nat.{ℕ, _≤_, _<_, min, max};
 ghost use lib.ListN.{getD};
 ghost use Rattle.model.specs.Limits.{lineRoom};
 ghost use Rattle.model.specs.Pattern.{Pattern, patternOf, lines};
 ghost use Rattle.model.specs.Marking.{Marking, unmarked, valid};
 ghost use Rattle.model.specs.Bound.{falling, strikes, bound};
 ghost use Rattle.model.specs.Matching.{looks};
-ghost use Rattle.weighing.specs.Striking.{weightRoom};
 ghost use Rattle.crossing.specs.Crossing.{Laid};
-ghost use Rattle.keeping.specs.Tied.{tallyPlace};
+ghost use Rattle.keeping.specs.Tied.{weightRoom, tallyPlace};
 ghost use Rattle.keeping.specs.Kept.{Holds, Placeable, markingWith};
 ghost use Rattle.bound.specs.Evaluated.{Listed};
 ghost use Rattle.judging.specs.Bounds.{capAt, struckFrom, boundFrom};
 ghost use Rattle.running.specs.Judging.{Topped, Judgeable};
 
-// Whether the bound of a marking is below the best count, and the looks of its matching.
+// The least of a count and the bound of a marking, and the looks of its matching.
 pub(crate) struct Judged {
-    pub below: bool,
+    pub least: u64,
     pub looks: u64,
 }
 
@@ -99,8 +97,15 @@ fn strike(tally: &[u16; TALLY_ROOM], p: usize, top: usize, s: usize, room: usize
     struck
 }
 
+// The larger of two numbers.
+fn larger(x: usize, y: usize) -> usize
+    ensures { λ r. ⌜ r ≡ max x y ⌝ }
+{
+    if x < y { y } else { x }
+}
+
 // The lines struck for a part.
-fn strike_part(
+pub(crate) fn strike_part(
     tally: &[u16; TALLY_ROOM],
     sums: &[u32; SUM_ROOM],
     loads: &[u16; LOAD_ROOM],
@@ -116,8 +121,8 @@ fn strike_part(
     strike(tally, p, top, s, room)
 }
 
-// The bound is below a count, with the size of the matching.
-fn is_below(
+// The least of a count and the bound, with the size of the matching: the lines to be struck are found only where the others do not reach the count.
+fn least_with(
     tally: &[u16; TALLY_ROOM],
     sums: &[u32; SUM_ROOM],
     loads: &[u16; LOAD_ROOM],
@@ -125,24 +130,27 @@ fn is_below(
     caps: Caps,
     matched: usize,
     best: usize,
-) -> bool
+) -> usize
     requires { ⌜ (top < weightRoom) × (matched < 65536) ⌝ }
-    ensures { λ r. ⌜ r ≡ ltb (boundFrom (now (tally .entry)) (now (sums .entry)) (now (loads .entry)) caps top matched) best ⌝ }
+    ensures { λ r. ⌜ r ≡ min (boundFrom (now (tally .entry)) (now (sums .entry)) (now (loads .entry)) caps top matched) best ⌝ }
 {
     let sure = wide16(loads[2]) + wide32(sums[TORN_PLACE]);
     if best <= sure + matched {
-        return false;
+        return best;
     }
     let need = best - sure;
     let zero = strike_part(tally, sums, loads, 0, top, caps);
     if need <= zero {
-        return false;
+        return best;
     }
     let one = strike_part(tally, sums, loads, 1, top, caps);
-    one < need - zero
+    if need - zero <= one {
+        return best;
+    }
+    sure + larger(zero + one, matched)
 }
 
-// The bound of a valid marking is below a count, and the looks of its matching; no unmarked line has more than `top` nonzeros.
+// The least of a count and the bound of a valid marking, and the looks of its matching; no unmarked line has more than `top` nonzeros.
 pub(crate) fn judge(
     m: u16,
     list: &[u8],
@@ -162,11 +170,11 @@ pub(crate) fn judge(
         Holds (patternOf m n nonzeros (now (list .entry))) μ marks by left (now (kinds .entry)) (now (tally .entry)) (now (sums .entry)) (now (loads .entry)) →
         valid (patternOf m n nonzeros (now (list .entry))) caps μ ≡ true →
         Topped (patternOf m n nonzeros (now (list .entry))) μ top →
-        (r .below ≡ ltb (bound (patternOf m n nonzeros (now (list .entry))) caps μ) best)
+        (r .least ≡ min (bound (patternOf m n nonzeros (now (list .entry))) caps μ) best)
         × (r .looks ≡ looks (patternOf m n nonzeros (now (list .entry))) μ)) ⌝ }
 {
     let matching = matched_of(m, kinds, list, rows, sums[CONFLICTS_PLACE] == 0);
-    let below = is_below(
+    let least = least_with(
         tally,
         sums,
         loads,
@@ -176,7 +184,7 @@ pub(crate) fn judge(
         best as usize,
     );
     Judged {
-        below,
+        least: least as u64,
         looks: matching.looks,
     }
 }

@@ -1,6 +1,8 @@
 // A run: its list and its state checked, then so many tries of the walk, on counts that are kept while the trail grows and shrinks.
 use crate::beginning::run_from;
 use bound::tables::places;
+use marking::order::line_counts;
+use marking::order::total_of;
 use matching::starts::row_starts;
 use model::Ran;
 use model::RunAnswer;
@@ -12,9 +14,9 @@ use model::limits::LINE_ROOM;
 use model::limits::SIDE_ENDS;
 use model::limits::TRIES_LIMIT;
 use pattern::checks::list_verdict;
+use pattern::room::lines_of;
 use state::checking::state_fine;
 use state::holding::normal;
-use state::lines::line_total;
 ghost use mathlib.Core.Path.{_≡_};
 ghost use Rattle.model.specs.declared.Verdict.the-variants.{Accepted};
 ghost use Rattle.model.specs.Pattern.{patternOf};
@@ -25,8 +27,11 @@ ghost use Rattle.running.specs.Run.{Tryable};
 mod beginning;
 mod counts;
 mod deciding;
+pub mod evaluating;
+mod flooring;
 mod kinds;
 mod marks;
+pub mod presenting;
 mod room;
 mod tally;
 mod trying;
@@ -65,19 +70,31 @@ fn run_fine(
     columns: u16,
     size: u16,
     list: &[u8],
+    counts: &[u16; LINE_ROOM],
     places: &[u16; LINE_ROOM],
     starts: &[u16; SIDE_ENDS],
     k: u16,
     budget: u64,
 ) -> Ran
-    requires { ⌜ Tryable rows columns size (now list) (now places) (now starts) k search ⌝ }
+    requires { ⌜ Tryable rows columns size (now list) (now counts) (now places) (now starts) k search ⌝ }
     ensures { λ a. ⌜ a ≡ ranAfter (budgetBy (search .tries) budget) search (patternOf rows columns size (now (list .entry))) budget ⌝ }
 {
     let verdict = budget_verdict(search.tries, budget);
     match verdict {
         Verdict::Accepted => {
             let from = normal(search);
-            let after = run_from(from, rows, columns, size, list, places, starts, k, budget);
+            let after = run_from(
+                from,
+                rows,
+                columns,
+                size,
+                list,
+                counts,
+                places,
+                starts,
+                k,
+                budget,
+            );
             let answer = ended_as(after.complete, after.looks);
             Ran {
                 answer,
@@ -99,9 +116,10 @@ fn run_listed(search: Search, m: u64, n: u64, nonzeros: u64, list: &[u8], budget
     let rows = m as u16;
     let columns = n as u16;
     let size = nonzeros as u16;
-    let places = places(rows, columns, size, list);
+    let counts = line_counts(rows, columns, size, list);
+    let places = places(rows, columns, &counts);
     let starts = row_starts(list, size);
-    let k = line_total(rows, columns, size, list);
+    let k = total_of(&counts, lines_of(rows, columns));
     if state_fine(search, rows, columns, size, list, &places, &starts, k) {
         return run_fine(
             search,
@@ -109,6 +127,7 @@ fn run_listed(search: Search, m: u64, n: u64, nonzeros: u64, list: &[u8], budget
             columns,
             size,
             list,
+            &counts,
             &places,
             &starts,
             k,

@@ -2,6 +2,7 @@
 use crate::counts::give_one;
 use crate::counts::take_one;
 use crate::kinds::settle;
+use crate::kinds::settle_if;
 use crate::room::BY_ROOM;
 use crate::room::LOAD_ROOM;
 use crate::room::SUM_ROOM;
@@ -17,7 +18,7 @@ ghost use Rattle.model.specs.Marking.{Marking, unmarked};
 ghost use Rattle.crossing.specs.Crossing.{Laid};
 ghost use Rattle.keeping.specs.Kept.{none, meets, Stage, Holds, Placeable, Takes, Gives, Pushable, Poppable, markingWith};
 
-// The nonzeros of line l are taken by p, one by one, and each crossing line is settled.
+// The nonzeros of line l are taken by p, one by one, and each crossing line is settled where its count becomes 1.
 fn take_all(
     starts: &[u16; LINE_ROOM],
     cross: &[u16; CROSS_ROOM],
@@ -40,12 +41,24 @@ fn take_all(
     while i < end {
         let y = wide16(cross[i]);
         take_one(by, left, kinds, tally, sums, y, p);
-        settle(starts, cross, marks, by, left, kinds, tally, sums, y);
+        let turned = by[LINE_ROOM * p + y] == 1;
+        settle_if(
+            starts,
+            cross,
+            marks,
+            by,
+            left,
+            kinds,
+            tally,
+            sums,
+            y,
+            turned,
+        );
         i += 1;
     }
 }
 
-// The nonzeros of line l that p has taken are given back, one by one, and each crossing line is settled.
+// The nonzeros of line l that p has taken are given back, one by one, and each crossing line is settled where its count becomes 0.
 fn give_all(
     starts: &[u16; LINE_ROOM],
     cross: &[u16; CROSS_ROOM],
@@ -68,7 +81,19 @@ fn give_all(
     while i < end {
         let y = wide16(cross[i]);
         give_one(by, left, kinds, tally, sums, y, p);
-        settle(starts, cross, marks, by, left, kinds, tally, sums, y);
+        let turned = by[LINE_ROOM * p + y] == 0;
+        settle_if(
+            starts,
+            cross,
+            marks,
+            by,
+            left,
+            kinds,
+            tally,
+            sums,
+            y,
+            turned,
+        );
         i += 1;
     }
 }

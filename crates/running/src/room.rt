@@ -3,8 +3,11 @@
 // For each part a number for each line.
 pub(crate) const BY_ROOM: usize = 2048;
 
-// For each part a number for each weight of a line, 0 to 300.
-pub(crate) const TALLY_ROOM: usize = 602;
+// For each part a number for each weight of a line, 0 to 300, and then for each part a number for each line.
+pub(crate) const TALLY_ROOM: usize = 2650;
+
+// Where the numbers for each line begin: how many of its crossing lines lean to 0, then to 1.
+pub(crate) const NEAR_PLACE: usize = 602;
 
 // The sums that are tied to the kinds of lines.
 pub(crate) const SUM_ROOM: usize = 6;

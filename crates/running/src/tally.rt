@@ -7,14 +7,15 @@ use crate::room::TORN_PLACE;
 use model::limits::SIDE_ENDS;
 use pattern::reading::wide;
 use pattern::reading::wide16;
+ghost use mathlib.Core.Bool.{true, false};
 ghost use mathlib.Core.Path.{_≡_};
-ghost use Prim.Native.Nat.{_+_, _-_, _*_, _≤_, _<_};
+ghost use Prim.Native.Nat.{_+_, _-_, _≤_, _<_};
 ghost use lib.ListN.{length, getD};
-ghost use Rattle.weighing.specs.Striking.{weightRoom};
+ghost use Rattle.keeping.specs.Tied.{tallyRoom};
 ghost use Rattle.keeping.specs.Moves.{Raised, nearIn, Adds, Leavable, Enterable, Moves, Movable};
 
 // A number of two bytes as one of four.
-fn long16(x: u16) -> u32
+pub(crate) fn long16(x: u16) -> u32
     ensures { λ r. ⌜ r ≡ x ⌝ }
 {
     x as u32
@@ -22,7 +23,7 @@ fn long16(x: u16) -> u32
 
 // One line more at a place of the tally.
 fn count_in(tally: &mut [u16; TALLY_ROOM], at: usize)
-    requires { ⌜ (length (now tally) ≡ 2 * weightRoom) × (at < 2 * weightRoom) × (getD (now tally) at 0 < 65535) ⌝ }
+    requires { ⌜ (length (now tally) ≡ tallyRoom) × (at < tallyRoom) × (getD (now tally) at 0 < 65535) ⌝ }
     ensures { λ _. ⌜ Raised at 1 (now (tally .entry)) (now (tally .exit)) ⌝ }
 {
     tally[at] = tally[at] + 1;
@@ -30,10 +31,24 @@ fn count_in(tally: &mut [u16; TALLY_ROOM], at: usize)
 
 // One line less at a place of the tally.
 fn count_out(tally: &mut [u16; TALLY_ROOM], at: usize)
-    requires { ⌜ (length (now tally) ≡ 2 * weightRoom) × (at < 2 * weightRoom) × (1 ≤ getD (now tally) at 0) ⌝ }
+    requires { ⌜ (length (now tally) ≡ tallyRoom) × (at < tallyRoom) × (1 ≤ getD (now tally) at 0) ⌝ }
     ensures { λ _. ⌜ Raised at 1 (now (tally .exit)) (now (tally .entry)) ⌝ }
 {
     tally[at] = tally[at] - 1;
+}
+
+// One line more or one less at a place of the tally.
+pub(crate) fn step(tally: &mut [u16; TALLY_ROOM], at: usize, up: bool)
+    requires { ⌜ (length (now tally) ≡ tallyRoom) × (at < tallyRoom)
+        × (up ≡ true → getD (now tally) at 0 < 65535) × (up ≡ false → 1 ≤ getD (now tally) at 0) ⌝ }
+    ensures { λ _. ⌜ (up ≡ true → Raised at 1 (now (tally .entry)) (now (tally .exit)))
+        × (up ≡ false → Raised at 1 (now (tally .exit)) (now (tally .entry))) ⌝ }
+{
+    if up {
+        count_in(tally, at);
+    } else {
+        count_out(tally, at);
+    }
 }
 
 // So much more at a place of the sums.

@@ -77,7 +77,8 @@ pub(crate) fn try_mark(
         );
         let top = counts[l];
         let judged = judge(m, list, rows, kinds, tally, sums, loads, top, caps, best);
-        if judged.below {
+        let least = judged.least;
+        if least < best {
             return Tried {
                 stands: true,
                 looks: judged.looks,

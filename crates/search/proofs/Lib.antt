@@ -6,5 +6,3 @@ pub mod ShowTold
 pub mod Wanting
 pub mod Demand3
 pub mod OneRun
-pub mod Shows
-pub mod Splits

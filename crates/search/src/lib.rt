@@ -1,5 +1,4 @@
 // The search: opening, run and showing.
-use crate::presenting::show_search;
 use model::Caps;
 use model::Opened;
 use model::Ran;
@@ -7,6 +6,7 @@ use model::Search;
 use model::ShowAnswer;
 use model::Verdict;
 use pattern::checks::open_verdict;
+use running::presenting::show_search;
 use running::run_search;
 use state::holding::fresh_search;
 use state::holding::no_search;
@@ -15,8 +15,6 @@ ghost use mathlib.Core.Path.{_≡_};
 ghost use Rattle.model.specs.Refusal.{verdictReply};
 ghost use Rattle.model.specs.Split.{capsOf};
 ghost use Rattle.model.specs.Calls.{openCall, runCall, showCall, showParts, runReply, showReply, openReplies, runReplies, showReplies};
-
-mod presenting;
 
 // Opens a search of a pattern under cap 0 and cap 1.
 pub fn open(m: u64, n: u64, nonzeros: u64, list: &[u8], cap0: u64, cap1: u64) -> Opened

@@ -4,7 +4,7 @@ use mathlib.Core.Bool.{Bool, true, false, not}
 use mathlib.Core.List.{List, [], _∷_}
 use mathlib.Core.Option.{Option, some, none}
 use mathlib.Core.Path.{_≡_, refl, sym, _∙_, ap}
-use Prim.Native.Nat.{ℕ, _+_, _*_, _≤_}
+use Prim.Native.Nat.{ℕ, _+_, _*_, _≤_, _<_}
 use native.Mathlib.Nat.{mul-assoc}
 use native.Mathlib.Omega.{arith}
 use lib.Dec.{eqb, leb}
@@ -15,12 +15,14 @@ use Rattle.trail.specs.Trail.{markRoom}
 use Rattle.model.specs.declared.Verdict.the-variants.{Accepted}
 use Rattle.model.specs.declared.Search.{Search}
 use Rattle.model.specs.Limits.{lineRoom, lineLimit, triesLimit}
-use Rattle.model.specs.Pattern.{patternOf, lineTotal}
+use Rattle.model.specs.Pattern.{patternOf, lineCount, lineTotal}
 use Rattle.model.specs.Walk.{Record, Rules, rulesOf, cuts, isEmpty}
 use Rattle.model.specs.State.{marksIn, bestIn, capsIn, recordOf, searchOf, areMarks, onesAllowed, beginningsValid, trailFine, bestFine, stateFine, countsFine}
 use Rattle.model.specs.Calls.{listVerdict}
 use Rattle.state.specs.Holding.{normalOf}
 use Rattle.matching.specs.Starts.{sideRoom, rowStart}
+use Rattle.pattern.specs.Room.{within}
+use Rattle.marking.specs.Order.{totalBy}
 use Rattle.bound.specs.Evaluated.{Placed}
 use Rattle.bound.proofs.Evaluations.{listed-few, accepted-listed}
 use Rattle.model.proofs.Walk.Looked.{Looked}
@@ -30,6 +32,7 @@ use Rattle.state.specs.Ready.{Ready, Fits}
 use Rattle.state.proofs.Normal.{normal-is}
 use Rattle.state.proofs.Held.{record-back, few-lines}
 use Rattle.state.proofs.StateLaws.{marks-length}
+use Rattle.state.proofs.Totals.{total-of-counts}
 
 empty-short : (R : Rules) (τ : List ℕ) → isEmpty τ ≡ true → length τ ≤ R .k
 unfolding isEmpty
@@ -119,20 +122,23 @@ accepted-few m n nonzeros list h =
     few-lines (patternOf m n nonzeros list) (list-accepted m n nonzeros list h .rows-to) (list-accepted m n nonzeros list h .columns-to)
 
 pub accepted-ready :
-    (m n nonzeros : ℕ) (list places starts : List ℕ) (k : ℕ) →
+    (m n nonzeros : ℕ) (list counts places starts : List ℕ) (k : ℕ) →
     listVerdict m n nonzeros list ≡ Accepted →
-    (m + n ≤ lineRoom → Placed (patternOf m n nonzeros list) places) →
+    ((l : ℕ) → l < lineRoom → getD counts l 0 ≡ lineCount (patternOf m n nonzeros list) l) →
+    (m + n ≤ lineRoom → ((l : ℕ) → l < lineRoom → getD counts l 0 ≡ lineCount (patternOf m n nonzeros list) l) →
+    ((l : ℕ) → lineCount (patternOf m n nonzeros list) l ≤ lineLimit) → Placed (patternOf m n nonzeros list) places) →
     ((m n i : ℕ) → i ≤ sideRoom → getD starts i 0 ≡ rowStart (patternOf m n nonzeros list) i) →
-    (m + n ≤ lineRoom → k ≡ lineTotal (patternOf m n nonzeros list)) →
+    k ≡ totalBy counts (within (m + n)) →
     Ready m n nonzeros list places starts k
-accepted-ready m n nonzeros list places starts k h placed started total =
+accepted-ready m n nonzeros list counts places starts k h counted placed started total =
     let listed = accepted-listed m n nonzeros list starts h started in
     let room = listed-few listed in
+    let all = total-of-counts m n nonzeros list counts k room counted total in
     record {
       listed = listed;
-      placed = placed room;
-      total = total room;
-      few = omega (arith, total room, accepted-few m n nonzeros list h);
+      placed = placed room counted (listed .thin);
+      total = all;
+      few = omega (arith, all, accepted-few m n nonzeros list h);
     }
 
 pub fits-at : (j k : ℕ) (r : Record) → j ≡ k → Fits j r → Fits k r

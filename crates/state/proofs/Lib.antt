@@ -5,6 +5,7 @@ pub mod Totals
 pub mod Legals
 pub mod States
 pub mod StateLaws
+pub mod ByLine
 pub mod Validities
 pub mod Normal
 pub mod Accepting

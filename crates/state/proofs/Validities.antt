@@ -3,7 +3,7 @@
 use mathlib.Core.Bool.{Bool, true}
 use mathlib.Core.List.{List, [], _∷_}
 use mathlib.Core.Path.{_≡_, refl, sym, _∙_, ap}
-use Prim.Native.Nat.{ℕ, suc, _-_, _≤_, _<_}
+use Prim.Native.Nat.{ℕ, suc, _+_, _-_, _≤_, _<_}
 use native.Mathlib.Omega.{arith}
 use lib.ListN.{length, getD}
 use Rattle.counting.specs.Tests.{_and_}
@@ -11,25 +11,33 @@ use Rattle.counting.proofs.Joined.{both-ways, and-intro, and-left}
 use Rattle.trail.specs.declared.Trail.{Trail}
 use Rattle.trail.specs.Trail.{markRoom, dropped}
 use Rattle.trail.proofs.Methods.{dropped-length}
+use Rattle.model.specs.Limits.{lineRoom}
 use Rattle.model.specs.declared.Caps.{Caps}
 use Rattle.model.specs.declared.Search.{Search}
 use Rattle.model.specs.Pattern.{Pattern, Inside, patternOf}
 use Rattle.model.specs.Split.{unequal}
 use Rattle.model.specs.Marking.{marking, valid}
 use Rattle.model.specs.Walk.{rulesOf}
-use Rattle.model.specs.State.{marksIn, bestIn, capsIn, recordOf, arrayOf, trailOf, beginningsValid, trailFine, bestFine, stateFine}
+use Rattle.model.specs.State.{marksIn, bestIn, capsIn, recordOf, beginningsValid, trailFine, bestFine, stateFine}
 use Rattle.model.proofs.Walk.Sound.{whole, longer}
+use Rattle.model.proofs.Alike.Marks.{valid-same}
 use Rattle.model.proofs.Bound.Extended.{valid-begins}
 use Rattle.model.proofs.Order.Marks.{begins-extends}
 use Rattle.model.proofs.Theorems.OfList.{rules-k, rules-first, rules-valid}
+use Rattle.pattern.specs.Room.{within}
 use Rattle.marking.proofs.Trails.{marks-dropped}
-use Rattle.bound.specs.declared.Evaluation.{Evaluation}
-use Rattle.bound.specs.Evaluated.{Listed, Placed, Evaluates}
+use Rattle.marking.specs.Marks.{markFor}
+use Rattle.weighing.specs.declared.taking.Taken.{Taken}
+use Rattle.weighing.specs.Cells.{markingIn}
+use Rattle.weighing.specs.Taking.{TakenOf, validBy}
+use Rattle.weighing.proofs.Taken.{valid-by}
+use Rattle.bound.specs.Evaluated.{Placed}
+use Rattle.bound.proofs.Evaluations.{listed-few}
 use Rattle.state.specs.Holding.{clearedTo}
 use Rattle.state.specs.StateBy.{trailBy, bestBy, numbersBy}
 use Rattle.state.specs.Ready.{Ready}
-use Rattle.state.proofs.Normal.{cleared-is}
-use Rattle.state.proofs.StateLaws.{marks-length, trail-is, best-is, state-is}
+use Rattle.state.proofs.ByLine.{cleared-alike}
+use Rattle.state.proofs.StateLaws.{trail-is, best-is, state-is}
 
 -- a beginning of a valid marking is valid
 inherits : (P : Pattern) (caps : Caps) (x : ℕ) (τ : List ℕ) → Inside P → rulesOf P caps .valid (x ∷ τ) ≡ true → rulesOf P caps .valid τ ≡ true
@@ -64,35 +72,27 @@ trail-speaks P caps trail d v i long b e =
     ∙ longest-speaks P caps (getD (trail .marks) d 0) (marksIn (dropped trail)) i
     ∙ ap (beginningsValid (rulesOf P caps)) (sym (marks-dropped trail d long b))
 
--- the evaluation of a cleared trail
+-- the test of validity, on what the marks by line of a cleared trail take, is validity of the marking that the trail holds
 pub valid-cleared :
-    (m n nonzeros : ℕ) (list places starts : List ℕ) (caps : Caps) (trail kept : Trail) (j : Evaluation) →
-    kept ≡ clearedTo trail →
-    (Listed m n nonzeros list starts → Placed (patternOf m n nonzeros list) places →
-    (τ : List ℕ) → length τ ≤ markRoom → kept .marks ≡ arrayOf τ → kept .len ≡ length τ →
-    Evaluates (patternOf m n nonzeros list) caps (marking (patternOf m n nonzeros list) τ) j) →
-    Listed m n nonzeros list starts → Placed (patternOf m n nonzeros list) places → trail .len ≤ markRoom →
-    j .valid ≡ valid (patternOf m n nonzeros list) caps (marking (patternOf m n nonzeros list) (marksIn trail))
-unfolding trailOf
-valid-cleared m n nonzeros list places starts caps trail kept j e judged listed placed b =
-    let d : kept ≡ trailOf (marksIn trail) = e ∙ cleared-is trail b in
-    judged
-    listed
-    placed
-    (marksIn trail)
-    (omega (arith, marks-length trail))
-    (ap (λ (t : Trail). t .marks) d)
-    (ap (λ (t : Trail). t .len) d)
-    .valid-is
+    (m n nonzeros : ℕ) (list places entries : List ℕ) (total : ℕ) (caps : Caps) (trail kept : Trail) (r : Taken) (v : Bool) →
+    kept ≡ clearedTo trail → total ≡ within (m + n) →
+    (length entries ≡ lineRoom) × ((l : ℕ) → l < lineRoom → getD entries l 0 ≡ markFor total places (kept .marks) (kept .len) l) →
+    TakenOf (patternOf m n nonzeros list) (markingIn entries) r → v ≡ validBy r caps →
+    m + n ≤ lineRoom → Inside (patternOf m n nonzeros list) → Placed (patternOf m n nonzeros list) places → trail .len ≤ markRoom →
+    v ≡ valid (patternOf m n nonzeros list) caps (marking (patternOf m n nonzeros list) (marksIn trail))
+valid-cleared m n nonzeros list places entries total caps trail kept r v clears all marked takes e few inside placed short =
+    e
+    ∙ valid-by caps takes
+    ∙ valid-same (cleared-alike m n nonzeros list places entries total trail kept clears all marked few inside placed short) caps
 
 -- what the code has of a state check
-pub record Checked (m n nonzeros : ℕ) (list places starts : List ℕ) (k : ℕ) (s : Search) (beginning : Trail) (begins full numbers trail best : Bool) : Type 0 where
+pub record Checked (m n nonzeros : ℕ) (list places : List ℕ) (k : ℕ) (s : Search) (beginning : Trail) (begins full numbers trail best : Bool) : Type 0 where
   pub short : beginning ≡ dropped (s .trail)
   pub begins-is :
-      Listed m n nonzeros list starts → Placed (patternOf m n nonzeros list) places → beginning .len ≤ markRoom →
+      m + n ≤ lineRoom → Inside (patternOf m n nonzeros list) → Placed (patternOf m n nonzeros list) places → beginning .len ≤ markRoom →
       begins ≡ valid (patternOf m n nonzeros list) (capsIn s) (marking (patternOf m n nonzeros list) (marksIn beginning))
   pub full-is :
-      Listed m n nonzeros list starts → Placed (patternOf m n nonzeros list) places → s .best .len ≤ markRoom →
+      m + n ≤ lineRoom → Inside (patternOf m n nonzeros list) → Placed (patternOf m n nonzeros list) places → s .best .len ≤ markRoom →
       full ≡ valid (patternOf m n nonzeros list) (capsIn s) (marking (patternOf m n nonzeros list) (marksIn (s .best)))
   pub numbers-are : numbers ≡ numbersBy s m n nonzeros
   pub trail-test : trail ≡ trailBy (s .complete) (s .trail) k begins (unequal (capsIn s))
@@ -101,7 +101,7 @@ pub record Checked (m n nonzeros : ℕ) (list places starts : List ℕ) (k : ℕ
 -- it is the state check of document 01
 pub checked-is :
     (m n nonzeros : ℕ) (list places starts : List ℕ) (k : ℕ) (s : Search) (beginning : Trail) (begins full numbers trail best : Bool) →
-    Checked m n nonzeros list places starts k s beginning begins full numbers trail best →
+    Checked m n nonzeros list places k s beginning begins full numbers trail best →
     Ready m n nonzeros list places starts k →
     numbers and trail and best ≡ stateFine (rulesOf (patternOf m n nonzeros list) (capsIn s)) m n nonzeros (recordOf s)
 checked-is m n nonzeros list places starts k s beginning begins full numbers trail best c ready =
@@ -141,7 +141,7 @@ checked-is m n nonzeros list places starts k s beginning begins full numbers tra
         (ready .listed .inside)
         long
         inside
-        (c .begins-is (ready .listed) (ready .placed) (omega (arith, ap (λ (t : Trail). t .len) (c .short), dropped-length (s .trail) d long inside))
+        (c .begins-is (listed-few (ready .listed)) (ready .listed .inside) (ready .placed) (omega (arith, ap (λ (t : Trail). t .len) (c .short), dropped-length (s .trail) d long inside))
         ∙ ap (λ (t : Trail). valid P (capsIn s) (marking P (marksIn t))) (c .short)))
 
     best-fine : best ≡ bestFine (rulesOf P (capsIn s)) (bestIn (s .found) (s .best)) (s .«best_count») (s .complete)
@@ -153,4 +153,4 @@ checked-is m n nonzeros list places starts k s beginning begins full numbers tra
         s
         full
         few
-        (λ found long. c .full-is (ready .listed) (ready .placed) (omega (arith, long, few)) ∙ rules-valid P (capsIn s) (marksIn (s .best)))
+        (λ found long. c .full-is (listed-few (ready .listed)) (ready .listed .inside) (ready .placed) (omega (arith, long, few)) ∙ rules-valid P (capsIn s) (marksIn (s .best)))

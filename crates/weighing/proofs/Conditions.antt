@@ -30,3 +30,13 @@ condition-free x a b a′ b′ h p q =
 -- a number other than the three marks stands for no mark
 pub unmarked-rest : (x : ℕ) → (x ≡ 0 → ⊥) → (x ≡ 1 → ⊥) → (x ≡ 2 → ⊥) → unmarked ≤ x
 unmarked-rest x a b c = omega arith
+
+-- the condition depends on the two tests only at lines not marked 0 or 1
+pub condition-open :
+    (x : ℕ) (a b a′ b′ : Bool) → (2 ≤ x → a ≡ a′) → (2 ≤ x → b ≡ b′) → conditionFor x a b ≡ conditionFor x a′ b′
+unfolding conditionFor
+condition-open zero a b a′ b′ e f = refl
+condition-open (suc zero) a b a′ b′ e f = refl
+condition-open (suc (suc x)) a b a′ b′ e f =
+    ap (λ (y : Bool). conditionFor (suc (suc x)) y b) (e (omega arith))
+    ∙ ap (λ (y : Bool). conditionFor (suc (suc x)) a′ y) (f (omega arith))

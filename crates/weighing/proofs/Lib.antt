@@ -1,8 +1,3 @@
-pub mod Stores
-pub mod Steps
+pub mod Cells
 pub mod Conditions
 pub mod Taken
-pub mod Leans
-pub mod Tally
-pub mod Struck
-pub mod Weighed

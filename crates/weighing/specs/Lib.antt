@@ -1,5 +1,2 @@
 pub mod Cells
 pub mod Taking
-pub mod Leaning
-pub mod Striking
-pub mod Weights

@@ -1,7 +1,4 @@
-// What a marking takes: one pass over the nonzeros.
-use crate::cells::column_line;
-use crate::cells::line_mark;
-use crate::cells::put_if;
+// What a marking takes, and whether it is valid: one pass over the nonzeros.
 use counting::joining::bit_of;
 use counting::joining::both_of;
 use counting::joining::either_of;
@@ -10,22 +7,33 @@ use model::limits::LINE_ROOM;
 use pattern::reading::column_of;
 use pattern::reading::row_of;
 use pattern::reading::wide16;
-ghost use mathlib.Core.Bool.{false};
 ghost use mathlib.Core.Path.{_≡_};
-ghost use Prim.Native.Nat.{ℕ, _+_, _<_};
+ghost use Prim.Native.Nat.{ℕ, _+_};
 ghost use lib.Dec.{eqb};
-ghost use lib.ListN.{getD};
-ghost use Rattle.model.specs.Limits.{lineRoom};
-ghost use Rattle.counting.specs.Tests.{_and_, _or_, pick};
+ghost use Rattle.counting.specs.Tests.{_or_};
 ghost use Rattle.model.specs.Pattern.{patternOf};
 ghost use Rattle.weighing.specs.Cells.{markingIn};
-ghost use Rattle.weighing.specs.Taking.{TakesAll, validBy};
+ghost use Rattle.weighing.specs.Taking.{TakenOf, validBy};
 
 // D0 and D1, and whether some nonzero is taken by both parts.
 pub struct Taken {
     pub zero: u16,
     pub one: u16,
     pub both: bool,
+}
+
+// The line of a column.
+fn column_line(m: u16, column: u16) -> usize
+    ensures { λ r. ⌜ r ≡ m + column ⌝ }
+{
+    wide16(m) + wide16(column)
+}
+
+// The mark of a line, folded into the array, so that there is no test for its end.
+fn line_mark(marks: &[u8; LINE_ROOM], line: usize) -> u8
+    ensures { λ r. ⌜ r ≡ markingIn (now (marks .entry)) line ⌝ }
+{
+    marks[line % LINE_ROOM]
 }
 
 // A nonzero is taken by a part.
@@ -37,27 +45,9 @@ pub fn takes_by(marks: &[u8; LINE_ROOM], m: u16, row: u16, column: u16, part: u8
     either_of(at_row == part, at_column == part)
 }
 
-// Sets 1 at the two lines of a nonzero where a test passes.
-fn touch(lines: &mut [u8; LINE_ROOM], m: u16, row: u16, column: u16, test: bool)
-    ensures { λ _. ⌜ ((l : ℕ) → l < lineRoom →
-        getD (now (lines .exit)) l 0 ≡ pick ((eqb l row or eqb l (m + column)) and test) 1 (getD (now (lines .entry)) l 0)) ⌝ }
-{
-    put_if(lines, wide16(row), test, 1);
-    put_if(lines, column_line(m, column), test, 1);
-}
-
-// What a marking takes, with 1 set at each line that has a nonzero taken by 0, and by 1.
-pub fn take_all(
-    m: u16,
-    n: u16,
-    nonzeros: u16,
-    list: &[u8],
-    marks: &[u8; LINE_ROOM],
-    by_zero: &mut [u8; LINE_ROOM],
-    by_one: &mut [u8; LINE_ROOM],
-) -> Taken
-    ensures { λ r. ⌜ TakesAll (patternOf m n nonzeros (now (list .entry))) (markingIn (now (marks .entry))) r
-        (now («by_zero» .entry)) (now («by_one» .entry)) (now («by_zero» .exit)) (now («by_one» .exit)) ⌝ }
+// D0 and D1 of a marking, and whether some nonzero is taken by both parts.
+pub fn taken_of(m: u16, nonzeros: u16, list: &[u8], marks: &[u8; LINE_ROOM]) -> Taken
+    ensures { λ r. ⌜ ((n : ℕ) → TakenOf (patternOf m n nonzeros (now (list .entry))) (markingIn (now (marks .entry))) r) ⌝ }
 {
     let mut zero: u16 = 0;
     let mut one: u16 = 0;
@@ -68,8 +58,6 @@ pub fn take_all(
         let column = column_of(list, t);
         let first = takes_by(marks, m, row, column, 0);
         let second = takes_by(marks, m, row, column, 1);
-        touch(by_zero, m, row, column, first);
-        touch(by_one, m, row, column, second);
         zero = zero + bit_of(first);
         one = one + bit_of(second);
         both = either_of(both, both_of(first, second));

@@ -28,7 +28,7 @@ normal-requires c κs = search needs
 run-from-requires : tie.Need-run-from-requires
 run-from-requires c κs =
     let start = c .before .before .before .before .before in
-    from-readied _ _ _ _ _ _ _ (start .args .search) _ (start .pre) (c .normal .ensures) (start .args .budget) (budget-within _ _ (accepted (c .before .before)))
+    from-readied _ _ _ _ _ _ _ _ (start .args .search) _ (start .pre) (c .normal .ensures) (start .args .budget) (budget-within _ _ (accepted (c .before .before)))
 
 ended-as-requires : tie.Need-ended-as-requires
 ended-as-requires c κs = search needs
@@ -40,7 +40,7 @@ returns : tie.Need-returns
 returns c =
     let b = c .before .before .before .before in
     let start = b .before .before .before in
-    run-taken _ _ _ _ _ _ _ (start .args .search) _ (start .pre) (c .before .before .normal .ensures) (start .args .budget) _ _ _ (b .before .budget-verdict .ensures) (accepted-tag _ (b .match .keys1)) (c .before .run-from .ensures) (c .ended-as .ensures)
+    run-taken _ _ _ _ _ _ _ _ (start .args .search) _ (start .pre) (c .before .before .normal .ensures) (start .args .budget) _ _ _ (b .before .budget-verdict .ensures) (accepted-tag _ (b .match .keys1)) (c .before .run-from .ensures) (c .ended-as .ensures)
 
 returns-2 : tie.Need-returns-2
 returns-2 c = run-refused _ _ _ _ _ _ (sym (c .before .before .before .budget-verdict .ensures) ∙ c .before .verdict .given .1)

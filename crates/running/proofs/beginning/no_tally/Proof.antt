@@ -5,7 +5,7 @@ use Rattle.running.proofs.beginning.no_tally.Statement.{statement}
 use Rattle.running.proofs.beginning.no_tally.Tie as tie
 
 returns : tie.Need-returns
-returns c = zeros-are 602
+returns c = zeros-are 2650
 
 pub no-tally-spec : {M : Type 1} → statement M
 no-tally-spec = tie.close (tie.spec returns)

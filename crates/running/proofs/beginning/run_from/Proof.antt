@@ -1,4 +1,4 @@
--- `running::run_from` meets its contract.
+-- `running::beginning::run_from` meets its contract.
 -- Assumes nothing.
 use Rattle.running.proofs.Beginnings.{tables-made}
 use borrow.Author.Needs.{needs}
@@ -7,9 +7,6 @@ use Rattle.running.proofs.beginning.run_from.Tie as tie
 
 lines-of-requires : tie.Need-lines-of-requires
 lines-of-requires c κs = search needs
-
-line-counts-requires : tie.Need-line-counts-requires
-line-counts-requires c κs = search needs
 
 line-starts-requires : tie.Need-line-starts-requires
 line-starts-requires c κs = search needs
@@ -22,13 +19,10 @@ order-of-requires c κs = search needs
 
 walk-from-requires : tie.Need-walk-from-requires
 walk-from-requires c κs =
-    let s = c .before .before .before .before .before .before .before .before .before .before .before .before in
-    let counts = c .before .before .before .before .before .before .before .before .before .line-counts .ensures in
-    let starts = c .before .before .before .before .before .before .before .line-starts .ensures in (
-      s .pre .startable,
-      counts .0,
-      tables-made (s .pre) _ (c .before .before .before .before .before .before .before .before .before .before .lines-of .ensures) (counts .1) (starts .0) (starts .1) (c .before .before .before .before .before .crossings .ensures .1) (c .before .before .before .before .order-of .ensures .1),
-    )
+    let lines = c .before .before .before .before .before .before .before in
+    let s = lines .before .before in
+    let starts = c .before .before .before .before .before .before .line-starts .ensures in
+    (s .pre .startable, tables-made (s .pre) _ (lines .lines-of .ensures) (starts .0) (starts .1) (c .before .before .before .before .crossings .ensures .1) (c .before .before .before .order-of .ensures .1))
 
 returns : tie.Need-returns
 returns c = search needs
@@ -38,7 +32,6 @@ run-from-spec =
     tie.close
     (tie.spec
     lines-of-requires
-    line-counts-requires
     line-starts-requires
     crossings-requires
     order-of-requires

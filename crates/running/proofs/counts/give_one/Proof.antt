@@ -62,7 +62,7 @@ returns c =
     let a = f .args in (
       refl,
       refl,
-      λ P line tied. left-moved (cells (a .kinds .now)) (a .left .now) (a .y) (getD (a .left .now) (a .y) 0 + 1) (omega (arith, f .pre .left-long, f .pre .line, f .pre .few)) line (omega (arith, f .pre .room)) (c .before .move-up .ensures) tied,
+      λ P few line tied. left-moved (cells (a .kinds .now)) (a .left .now) (a .y) (getD (a .left .now) (a .y) 0 + 1) (omega (arith, f .pre .left-long, f .pre .line, f .pre .few)) few line (omega (arith, f .pre .room)) (c .before .move-up .ensures) tied,
     )
 
 pub give-one-spec : {M : Type 1} → statement M

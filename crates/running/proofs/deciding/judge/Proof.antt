@@ -2,9 +2,8 @@
 -- Assumes nothing.
 use borrow.Author.Needs.{needs}
 use mathlib.Core.Path.{_≡_, _∙_, ap}
-use Prim.Native.Nat.{ℕ}
+use Prim.Native.Nat.{ℕ, min}
 use native.Mathlib.Omega.{arith}
-use lib.Dec.{ltb}
 use Rattle.bound.proofs.Lowers.{matched-are}
 use Rattle.judging.proofs.Conditions.{kinds-lean, conflicts-kept}
 use Rattle.judging.proofs.Bounds.{bound-kept}
@@ -20,8 +19,8 @@ matched-of-requires c κs = search needs
 wide16-requires : tie.Need-wide16-requires
 wide16-requires c κs = search needs
 
-is-below-requires : tie.Need-is-below-requires
-is-below-requires c κs = search needs
+least-with-requires : tie.Need-least-with-requires
+least-with-requires c κs = search needs
 
 returns : tie.Need-returns
 returns c =
@@ -46,9 +45,9 @@ returns c =
     (conflicts-kept h (laid .inside))
     (c .before .before .matched-of .ensures .0) in
     let same : top ≡ a .top = c .before .wide16 .ensures .0 in (
-      c .is-below .ensures
+      c .least-with .ensures
           ∙ ap
-          (λ (x : ℕ). ltb x (a .best))
+          (λ (x : ℕ). min x (a .best))
           (bound-kept
           (laid .inside)
           h
@@ -68,5 +67,5 @@ judge-spec =
     element-copy-out-matched-of
     matched-of-requires
     wide16-requires
-    is-below-requires
+    least-with-requires
     returns)

@@ -7,8 +7,8 @@ use native.Mathlib.Nat.{mul-le-mul, div-le-self}
 use native.Mathlib.Omega.{arith}
 use lib.ListN.{getD}
 use Rattle.model.specs.Bound.{falling, strikes}
-use Rattle.weighing.proofs.Struck.{fallingBelow, strikes-stop}
 use Rattle.keeping.specs.Tied.{tallyPlace}
+use Rattle.judging.proofs.Strikes.{fallingBelow, strikes-stop}
 use Rattle.judging.proofs.Weights.{strike-start, some-weight, strike-on, strike-ends, strike-none}
 use Rattle.running.proofs.deciding.strike.Statement.{statement}
 use Rattle.running.proofs.deciding.strike.Tie as tie

@@ -24,7 +24,7 @@ use Rattle.model.proofs.Theorems.OfList.{rules-k, rules-first}
 use Rattle.packing.specs.declared.PackedTrail.{PackedTrail}
 use Rattle.running.proofs.Attempts.{next-line}
 use Rattle.running.proofs.Outcomes.{goes-grown, goes-bettered, goes-given-up, holds-same, goes-same}
-use Rattle.running.proofs.Goings.{next-room, next-mark, attempted-is, placed-standing, placed-holds, lifted-holds, lifted-fewer, stands-valid, cuts-kept, trail-short}
+use Rattle.running.proofs.Goings.{next-room, next-mark, attempted-trail, stands-by, placed-standing, placed-holds, lifted-holds, lifted-fewer, stands-valid, cuts-kept, trail-short}
 use Rattle.running.proofs.Walked.{none-empty, going-at, goes-start, looks-room, run-ends, one-more, tries-more}
 use Rattle.running.proofs.trying.walk_on.Statement.{statement}
 use Rattle.running.proofs.trying.walk_on.Tie as tie
@@ -96,8 +96,8 @@ next a =
     let packs = l .inv .2 .packs in
     let d : l .trail .len - 1 ≡ length (earlier (r .trail)) = omega (arith, packs .long, earlier-length (r .trail)) in
     let is = a .last .ensures (lastOf (r .trail)) (earlier (r .trail)) (subst (λ (ρ : List ℕ). Packs (l .trail) ρ) (trail-split (r .trail) (some g)) packs) in
-    let there = a .before .wide162 .ensures .0 ∙ ap (λ (x : ℕ). getD (s .args .order .now) x 0) d ∙ w .tabled .ordered .line-is _ (next-room P _ r legal (some g)) in
-    (next-mark P _ r legal (some g) _ _ there is, is)
+    let there = a .before .wide162 .ensures .0 ∙ ap (λ (x : ℕ). getD (s .args .order .now) x 0) d ∙ w .tabled .ordered .line-is _ (next-room P _ (r .trail) legal (some g)) in
+    (next-mark P _ (r .trail) legal (some g) _ _ there is, is)
 
 -- what the try answered
 judged :
@@ -117,10 +117,11 @@ judged t =
     let P = patternIn (s .args .search) (s .args .m) (s .args .list .now) in
     let r = at (s .args .search) (s .args .m) (s .args .list .now) (l .made) in
     let n = next a in
-    attempted-is P _ r (going-at (w .startable) (l .made) .legal) (some (t .before .before .before .before .before .before .before .before .before .before .before))
+    let e =
+    attempted-trail P _ (r .trail) (going-at (w .startable) (l .made) .legal) (some (t .before .before .before .before .before .before .before .before .before .before .before))
     (t .try-mark .ensures (s .args .search .n) (s .args .search .nonzeros) (earlier (r .trail)) (w .startable .listed) (w .tabled .laid) (w .tabled .counts-are _ (next-line (w .tabled .laid .inside) (n .0))) (n .0) (l .inv .2 .holds))
-    (n .1)
-    (l .inv .2 .count-is)
+    (n .1) in
+    (stands-by _ r (l .count) (e .0) (l .inv .2 .count-is), e .1, e .2)
 
 unequal-caps-requires : tie.Need-unequal-caps-requires Inv-loop μ-loop
 unequal-caps-requires c κs = search needs
@@ -224,9 +225,9 @@ lift-requires c κs =
       laid = w .tabled .laid;
       ordered = w .tabled .ordered;
       standing = subst (λ (x : ℕ). Standing (rulesOf P (capsIn (s .args .search))) (stack (markAt (r .trail)) x)) (sym from)
-          (placed-standing P _ r legal (some (t .before .before .before .before .before .before .before .before .before .before .before)) _ (l .trail .len) (l .inv .2 .packs .long) (stands-valid _ r (j .0)));
+          (placed-standing P _ (r .trail) legal (some (t .before .before .before .before .before .before .before .before .before .before .before)) _ (l .trail .len) (l .inv .2 .packs .long) (stands-valid _ r (j .0)));
       holds = subst (λ (x : ℕ). Holds P (marking P (stack (markAt (r .trail)) x)) (t .try-mark .last .1 .1 .1 .1 .1 .1 .0) (t .try-mark .last .1 .1 .1 .1 .1 .1 .1 .0) (t .try-mark .last .1 .1 .1 .1 .1 .1 .1 .1 .0) (t .try-mark .last .1 .1 .1 .1 .1 .1 .1 .1 .1 .0) (t .try-mark .last .1 .1 .1 .1 .1 .1 .1 .1 .1 .1 .0) (t .try-mark .last .1 .1 .1 .1 .1 .1 .1 .1 .1 .1 .1 .0) (t .try-mark .last .1 .1 .1 .1 .1 .1 .1 .1 .1 .1 .1 .1 .0)) (sym from)
-          (placed-holds P _ r legal (some (t .before .before .before .before .before .before .before .before .before .before .before)) _ (l .trail .len) (l .inv .2 .packs .long) (j .2));
+          (placed-holds P _ (r .trail) legal (some (t .before .before .before .before .before .before .before .before .before .before .before)) _ (l .trail .len) (l .inv .2 .packs .long) (j .2));
     }
 
 add-made : tie.Need-add-made Inv-loop μ-loop
@@ -273,22 +274,22 @@ loop-again c =
           (λ u.
           let caps = capsIn (s .args .search) in
           let from = u .9 .ensures in
-          let standing = subst (λ (x : ℕ). Standing (rulesOf P caps) (stack (markAt (r .trail)) x)) (sym from) (placed-standing P caps r legal (some g) _ (l .trail .len) (goes .packs .long) (stands-valid R r (j .0))) in
-          let held = subst (λ (x : ℕ). Holds P (marking P (stack (markAt (r .trail)) x)) (t .try-mark .last .1 .1 .1 .1 .1 .1 .0) (t .try-mark .last .1 .1 .1 .1 .1 .1 .1 .0) (t .try-mark .last .1 .1 .1 .1 .1 .1 .1 .1 .0) (t .try-mark .last .1 .1 .1 .1 .1 .1 .1 .1 .1 .0) (t .try-mark .last .1 .1 .1 .1 .1 .1 .1 .1 .1 .1 .0) (t .try-mark .last .1 .1 .1 .1 .1 .1 .1 .1 .1 .1 .1 .0) (t .try-mark .last .1 .1 .1 .1 .1 .1 .1 .1 .1 .1 .1 .1 .0)) (sym from) (placed-holds P caps r legal (some g) _ (l .trail .len) (goes .packs .long) (j .2)) in
+          let standing = subst (λ (x : ℕ). Standing (rulesOf P caps) (stack (markAt (r .trail)) x)) (sym from) (placed-standing P caps (r .trail) legal (some g) _ (l .trail .len) (goes .packs .long) (stands-valid R r (j .0))) in
+          let held = subst (λ (x : ℕ). Holds P (marking P (stack (markAt (r .trail)) x)) (t .try-mark .last .1 .1 .1 .1 .1 .1 .0) (t .try-mark .last .1 .1 .1 .1 .1 .1 .1 .0) (t .try-mark .last .1 .1 .1 .1 .1 .1 .1 .1 .0) (t .try-mark .last .1 .1 .1 .1 .1 .1 .1 .1 .1 .0) (t .try-mark .last .1 .1 .1 .1 .1 .1 .1 .1 .1 .1 .0) (t .try-mark .last .1 .1 .1 .1 .1 .1 .1 .1 .1 .1 .1 .0) (t .try-mark .last .1 .1 .1 .1 .1 .1 .1 .1 .1 .1 .1 .1 .0)) (sym from) (placed-holds P caps (r .trail) legal (some g) _ (l .trail .len) (goes .packs .long) (j .2)) in
           let advanced = subst (λ (b : Bool). Packs (u .1 .result) (advance b (r .trail))) first (u .1 .ensures (r .trail) (goes .packs)) in
           let packs = subst (λ (x : PackedTrail). Packs x (advance (R .oneFirst) (r .trail))) (sym (u .19)) advanced in
           let to = u .10 .ensures ∙ ap (λ (x : ℕ). x - 1) (advanced .long) in
-          let fewer = subst (λ (x : ℕ). u .10 .result ≤ x) (sym from) (lifted-fewer P caps r legal (some g) (R .oneFirst) _ (l .trail .len) _ (goes .packs .long) to) in
+          let fewer = subst (λ (x : ℕ). u .10 .result ≤ x) (sym from) (lifted-fewer P caps (r .trail) legal (some g) (R .oneFirst) _ (l .trail .len) _ (goes .packs .long) to) in
           let holds =
           holds-same (u .12) (u .13) (u .14) (u .15) (u .16) (u .17) (u .18)
-          (lifted-holds P caps r legal (some g) (R .oneFirst) _ to (u .11 .ensures P caps (markAt (r .trail)) (w .tabled .laid) (w .tabled .ordered) standing fewer held)) in
+          (lifted-holds P caps (r .trail) legal (some g) (R .oneFirst) _ to (u .11 .ensures P caps (markAt (r .trail)) (w .tabled .laid) (w .tabled .ordered) standing fewer held)) in
           ⊎-elim
           (λ v.
           let up = and-left _ _ (better ∙ v .0 .taken) in
           let long : t .before .before .before .before .before .before .before .before .before .before .before .before .before .before .before .before .wide16 .result ≤ l .trail .len = leb-true _ _ (and-right _ _ (better ∙ v .0 .taken)) in
           let whole = subst (λ (ρ : List ℕ). Holds P (marking P ρ) (t .try-mark .last .1 .1 .1 .1 .1 .1 .0) (t .try-mark .last .1 .1 .1 .1 .1 .1 .1 .0) (t .try-mark .last .1 .1 .1 .1 .1 .1 .1 .1 .0) (t .try-mark .last .1 .1 .1 .1 .1 .1 .1 .1 .1 .0) (t .try-mark .last .1 .1 .1 .1 .1 .1 .1 .1 .1 .1 .0) (t .try-mark .last .1 .1 .1 .1 .1 .1 .1 .1 .1 .1 .1 .0) (t .try-mark .last .1 .1 .1 .1 .1 .1 .1 .1 .1 .1 .1 .1 .0)) (pick-true (r .trail) (earlier (r .trail)) up) (j .2) in
           goes-same more (v .4) (v .5) (v .6)
-          (goes-bettered R goes _ looked _ _ (sym (j .0) ∙ up) (le-ltb (length (r .trail)) (R .k) (omega (arith, goes .packs .long))) packs (v .1 .ensures (r .trail) (goes .packs)) (v .3 .ensures .0 ∙ cuts-kept (r .trail) (trail-short P caps r legal (some g)) whole) holds))
+          (goes-bettered R goes _ looked _ _ (sym (j .0) ∙ up) (le-ltb (length (r .trail)) (R .k) (omega (arith, goes .packs .long))) packs (v .1 .ensures (r .trail) (goes .packs)) (v .3 .ensures .0 ∙ cuts-kept (r .trail) (trail-short P caps (r .trail) legal (some g)) whole) holds))
           (λ v.
           let down : t .try-mark .result .stands ≡ false = fails _ (λ up. no-way (neither up (u .0 .left) (v .0 .left))) in
           goes-same more (v .1) (v .2) (v .3) (goes-given-up R goes _ looked (sym (j .0) ∙ down) packs holds))

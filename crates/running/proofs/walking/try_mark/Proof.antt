@@ -3,9 +3,9 @@
 use mathlib.Core.Bool.{true}
 use mathlib.Core.List.{List, _∷_}
 use mathlib.Core.Path.{_≡_, refl, sym, _∙_}
-use Prim.Native.Nat.{ℕ, _<_}
+use Prim.Native.Nat.{ℕ, _<_, min}
 use native.Mathlib.Omega.{arith}
-use lib.Dec.{ltb}
+use borrow.Author.Tests.{lt-ltb, le-ltb}
 use lib.ListN.{getD}
 use Rattle.counting.specs.Tests.{pick}
 use Rattle.model.specs.Pattern.{patternOf, lineCount}
@@ -82,7 +82,7 @@ judged :
     let s = j .before .before .before .before .before .before .before .before .before .before .before .before .before .before .before .before .before .before .before .before in
     (n nonzeros : ℕ) (τ : List ℕ) → Given s n nonzeros τ →
     let P = patternOf (s .args .m) n nonzeros (s .args .list .now) in
-    (j .judge .result .below ≡ ltb (bound P (s .args .caps) (marking P (s .args .p ∷ τ))) (s .args .best))
+    (j .judge .result .least ≡ min (bound P (s .args .caps) (marking P (s .args .p ∷ τ))) (s .args .best))
     × (j .judge .result .looks ≡ looks P (marking P (s .args .p ∷ τ)))
 judged j n nonzeros τ g =
     let u = j .before .before .before .before .before .before in
@@ -141,7 +141,7 @@ returns c = λ n nonzeros τ listed laid counts next holds.
     let g : Given s n nonzeros τ = record { listed = listed; laid = laid; counts-is = counts; next = next; holds = holds } in
     let e = placed (c .before .before .before .before .before .before .before) n nonzeros τ g in
     let j = judged (c .before) n nonzeros τ g in
-    attempt-fit (laid .inside) next _ (e .0) (sym (c .if2 .taken) ∙ j .0) (j .1) (with-holds (laid .inside) next (e .2))
+    attempt-fit (laid .inside) next _ (e .0) _ (j .0) (sym (lt-ltb _ _ (c .if2 .taken))) (j .1) (with-holds (laid .inside) next (e .2))
 
 pop-requires : tie.Need-pop-requires
 pop-requires c κs =
@@ -165,7 +165,8 @@ returns-2 c = λ n nonzeros τ listed laid counts next holds.
     let g : Given s n nonzeros τ = record { listed = listed; laid = laid; counts-is = counts; next = next; holds = holds } in
     let e = placed (c .before .before .before .before .before .before .before .before .before .before .before .before .before .before .before) n nonzeros τ g in
     let j = judged (c .before .before .before .before .before .before .before .before .before) n nonzeros τ g in
-    attempt-fit (laid .inside) next _ (e .0) (sym (c .before .before .before .before .before .before .before .before .if2 .left) ∙ j .0) (j .1) (c .pop .ensures P (marking P τ) (s .args .p) laid (e .1) (e .2))
+    let up = c .before .before .before .before .before .before .before .before .if2 .left in
+    attempt-fit (laid .inside) next _ (e .0) _ (j .0) (sym (le-ltb _ _ up)) (j .1) (c .pop .ensures P (marking P τ) (s .args .p) laid (e .1) (e .2))
 
 returns-3 : tie.Need-returns-3
 returns-3 c = λ n nonzeros τ listed laid counts next holds.

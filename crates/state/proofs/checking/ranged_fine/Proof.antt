@@ -42,7 +42,7 @@ both-of-requires-2 c κs = search needs
 
 returns : tie.Need-returns
 returns c =
-    λ ready.
+    λ starts ready.
     let best = c .before .before in
     let trail = best .before in
     let numbers = trail .before .before .before in
@@ -58,7 +58,7 @@ returns c =
     (a .nonzeros)
     (a .list .now)
     (a .places .now)
-    (a .starts .now)
+    starts
     (a .k)
     (a .search)
     (dropped .drop .result)

@@ -16,7 +16,7 @@ ranged-fine-requires : tie.Need-ranged-fine-requires
 ranged-fine-requires c κs = search needs
 
 returns-3 : tie.Need-returns-3
-returns-3 c = search needs
+returns-3 c = c .ranged-fine .ensures _
 
 pub state-fine-spec : {M : Type 1} → statement M
 state-fine-spec = tie.close (tie.spec returns returns-2 ranged-fine-requires returns-3)
