@@ -17,11 +17,12 @@ use Rattle.model.specs.declared.RunAnswer.{RunAnswer}
 use Rattle.model.specs.declared.RunAnswer.the-variants as run-answer
 use Rattle.model.specs.declared.Ran.{Ran}
 use Rattle.model.specs.declared.Search.{Search}
-use lib.ListN.{getD}
+use lib.ListN.{length, getD}
 use Rattle.model.specs.Limits.{lineRoom, budgetLimit, triesLimit}
 use Rattle.model.specs.Pattern.{Pattern, patternOf, lineCount, lineTotal}
 use Rattle.model.specs.Walk.{Record, Rules, rulesOf, isEmpty, walk, floor}
-use Rattle.model.specs.State.{capsIn, recordOf, searchOf, countsFine, trailFine, bestFine, stateFine}
+use Rattle.model.specs.declared.Caps.{Caps}
+use Rattle.model.specs.State.{marksIn, capsIn, recordOf, searchOf, countsFine, trailFine, bestFine, stateFine}
 use Rattle.model.specs.Calls.{ended, ranRecord, ranAfter}
 use Rattle.model.proofs.Theorems.Checks.{refuse-not, refuse-so, refuse-no}
 use Rattle.state.specs.Holding.{normalOf}
@@ -29,8 +30,14 @@ use Rattle.state.specs.Ready.{Fits}
 use Rattle.state.proofs.Accepting.{fine-normal, fits-back, ready-fits, fine-looked}
 use Rattle.bound.specs.Evaluated.{Listed, Placed}
 use Rattle.model.proofs.Walk.Legal.{Legal, legal-empty}
+use Rattle.model.proofs.Order.RulesSound.{rules-sound}
+use Rattle.model.proofs.Order.SplitMarks.{stack-length}
+use Rattle.model.proofs.Theorems.OfList.{rules-k}
+use Rattle.running.specs.Trying.{walkTo}
 use Rattle.running.proofs.Walked.{Going}
-use Rattle.running.specs.Run.{patternIn, rulesIn, Startable, Readied, Tryable}
+use Rattle.running.proofs.Exact.{walk-exact}
+use Rattle.running.proofs.Floored.{floor-found}
+use Rattle.running.specs.Run.{patternIn, rulesIn, Readied, Tryable}
 use Rattle.running.specs.Budget.{budgetBy}
 
 -- the cases of 13
@@ -156,25 +163,23 @@ module _ (rows columns size : ℕ) (list counts places starts : List ℕ) (k : �
       (subst (λ (x : Search). x .looks ≤ x .tries * (rows * size)) (sym f) (fine-looked _ rows columns size (recordOf s) (t .fine) .few))
 
   -- and tries can be made on it
-  from-startable : (budget : ℕ) → s .tries + budget ≤ triesLimit → Startable from rows list starts k budget
+  pub from-readied :
+      (full budget : ℕ) → full ≤ k → s .tries + budget ≤ triesLimit + budgetLimit →
+      Readied from rows columns size list counts places starts full budget
   unfolding recordOf
-  from-startable budget room =
+  from-readied full budget most room =
+      let total : k ≡ lineTotal (patternIn from rows list) = t .ready .total ∙ ap lineTotal (sym same-pattern) in
       record {
-        room = omega (arith, room, normal-tries s from f);
-        held = is-record ∙ ap searchOf (sym same-record);
-        listed = subst (λ (x : ℕ). Listed rows x (from .nonzeros) list starts) (sym same-columns) (subst (λ (x : ℕ). Listed rows columns x list starts) (sym same-size) (t .ready .listed));
-        total = t .ready .total ∙ ap lineTotal (sym same-pattern);
-        few = t .ready .few;
-        legal = fine-trail .legal;
-        ended = fine-trail .ended;
-        best-fits = subst (λ (r : Record). Fits k r) (sym same-record) fits .best-fits;
-        looked = from-looked;
-      }
-
-  pub from-readied : (budget : ℕ) → s .tries + budget ≤ triesLimit → Readied from rows columns size list counts places starts k budget
-  from-readied budget room =
-      record {
-        startable = from-startable budget room;
+        startable = record {
+          room = omega (arith, room, normal-tries s from f);
+          held = is-record ∙ ap searchOf (sym same-record);
+          listed = subst (λ (x : ℕ). Listed rows x (from .nonzeros) list starts) (sym same-columns) (subst (λ (x : ℕ). Listed rows columns x list starts) (sym same-size) (t .ready .listed));
+          within = omega (arith, total);
+          few = omega (arith, total, t .ready .few);
+          legal = fine-trail .legal;
+          ended = fine-trail .ended;
+          looked = from-looked;
+        };
         counts-long = t .counts-long;
         counted = subst (λ (P : Pattern). (l : ℕ) → l < lineRoom → getD counts l 0 ≡ lineCount P l) (sym same-pattern) (t .counted);
         columns-are = sym same-columns;
@@ -182,29 +187,62 @@ module _ (rows columns size : ℕ) (list counts places starts : List ℕ) (k : �
         placed = subst (λ (P : Pattern). Placed P places) (sym same-pattern) (t .ready .placed);
       }
 
+  -- with k marks for a full trail they are the walk's
+  walk-taken :
+      (budget : ℕ) → walkTo (rulesIn from rows list) k budget (recordOf from) ≡ walk (rulesOf (patternOf rows columns size list) (recordOf s .caps)) budget (recordOf s)
+  walk-taken budget =
+      let P = patternOf rows columns size list in
+      let R = rulesOf P (capsIn s) in
+      ap (λ (Q : Rules). walkTo Q k budget (recordOf from)) same-rules
+      ∙ ap (walkTo R k budget) same-record
+      ∙ ap (λ (x : ℕ). walkTo R x budget (recordOf s)) (t .ready .total ∙ sym (rules-k P (capsIn s)))
+      ∙ walk-exact (rules-sound P (capsIn s) (t .ready .listed .inside)) budget (recordOf s) (fine-going _ rows columns size (recordOf s) (t .fine))
+      ∙ ap (λ (c : Caps). walk (rulesOf P c) budget (recordOf s)) (sym (record-caps s))
+
   -- an accepted run
   pub run-taken :
       (budget : ℕ) (after : Search) (answer : RunAnswer) (v : Verdict) → v ≡ budgetBy (s .tries) budget → v ≡ Accepted →
-      after ≡ searchOf (walk (rulesIn from rows list) budget (recordOf from)) →
+      after ≡ searchOf (walkTo (rulesIn from rows list) k budget (recordOf from)) →
       answer ≡ ended (after .complete) (after .looks) →
       ranBy answer after ≡ ranAfter (budgetBy (s .tries) budget) s (patternOf rows columns size list) budget
   unfolding ranAfter ranRecord searchOf
   run-taken budget after answer v e a walks d =
-      let P = patternOf rows columns size list in
-      let w : after ≡ searchOf (walk (rulesOf P (recordOf s .caps)) budget (recordOf s)) = walks ∙ ap (λ (R : Rules). searchOf (walk R budget (recordOf from))) (same-rules ∙ ap (rulesOf P) (sym (record-caps s))) ∙ ap (λ (r : Record). searchOf (walk (rulesOf P (recordOf s .caps)) budget r)) same-record in
       ap (λ (x : RunAnswer). ranBy x after) d
-      ∙ ap (λ (x : Search). ranBy (ended (x .complete) (x .looks)) x) w
-      ∙ ap (λ (x : Verdict). ranAfter x s P budget) (sym a ∙ e)
+      ∙ ap (λ (x : Search). ranBy (ended (x .complete) (x .looks)) x) (walks ∙ ap searchOf (walk-taken budget))
+      ∙ ap (λ (x : Verdict). ranAfter x s (patternOf rows columns size list) budget) (sym a ∙ e)
 
-  -- its floor is that of the search
-  pub floor-readied : Readied from rows columns size list counts places starts (lineTotal (patternIn from rows list)) 0
+  -- the trail of the search has at most k marks
+  pub from-short : from .trail .len ≤ k
+  unfolding recordOf marksIn
+  from-short =
+      omega (
+        arith,
+        stack-length (λ i. getD (from .trail .marks) i 0) (from .trail .len),
+        ap (λ (r : Record). length (r .trail)) same-record,
+        fits .trail-fits,
+      )
+
+  -- with none for a full trail, and tries enough for every open marking, they find its floor
+  pub floor-readied : (budget : ℕ) → budget ≤ budgetLimit → Readied from rows columns size list counts places starts 0 budget
   unfolding recordOf
-  floor-readied =
-      let r = from-readied 0 (omega (arith, fine-tries _ rows columns size (recordOf s) (t .fine))) in
-      subst (λ (x : ℕ). Readied from rows columns size list counts places starts x 0) (r .startable .total) r
+  floor-readied budget b =
+      from-readied 0 budget (omega arith) (omega (arith, fine-tries _ rows columns size (recordOf s) (t .fine)))
 
-  pub floor-taken : (r : ℕ) → r ≡ floor (rulesIn from rows list) (recordOf from) → r ≡ floor (rulesOf (patternOf rows columns size list) (capsIn s)) (recordOf s)
-  floor-taken r e = e ∙ ap (λ (R : Rules). floor R (recordOf from)) same-rules ∙ ap (floor (rulesOf (patternOf rows columns size list) (capsIn s))) same-record
+  pub floor-taken :
+      (budget : ℕ) → 2 * from .trail .len + 1 ≤ budget → (after : Search) →
+      after ≡ searchOf (walkTo (rulesIn from rows list) 0 budget (recordOf from)) →
+      after .«best_count» ≡ floor (rulesOf (patternOf rows columns size list) (capsIn s)) (recordOf s)
+  unfolding searchOf recordOf marksIn
+  floor-taken budget enough after e =
+      ap (λ (x : Search). x .«best_count») e
+      ∙ floor-found
+      (rulesIn from rows list)
+      budget
+      (recordOf from)
+      fine-trail
+      (omega (arith, stack-length (λ i. getD (from .trail .marks) i 0) (from .trail .len)))
+      ∙ ap (λ (R : Rules). floor R (recordOf from)) same-rules
+      ∙ ap (floor (rulesOf (patternOf rows columns size list) (capsIn s))) same-record
 
 -- a refused one
 pub run-refused :

@@ -1,85 +1,73 @@
--- The floor of a search while its open markings are tried, one after another.
+-- With no marks for a full trail, the tries find the floor: each open marking is tried, one after another, and the least bound is left.
 -- Assumes nothing.
-use mathlib.Core.Bool.{true, false}
 use mathlib.Core.List.{List, [], _∷_}
 use mathlib.Core.Path.{_≡_, refl, sym, _∙_, ap}
-use Prim.Native.Nat.{ℕ, _+_, _-_, _*_, _%_, _≤_, _<_}
+use Prim.Native.Nat.{ℕ, zero, suc, _+_, _*_, _≤_, _<_, min}
 use native.Mathlib.Omega.{arith}
-use lib.Dec.{ltb}
 use lib.ListN.{length}
-use Rattle.counting.specs.Tests.{_and_}
-use Rattle.counting.proofs.Joined.{and-left}
-use Rattle.trail.specs.Trail.{markRoom}
-use Rattle.model.specs.declared.Caps.{Caps}
-use Rattle.model.specs.declared.Search.{Search}
-use Rattle.model.specs.Pattern.{Pattern}
-use Rattle.model.specs.Marking.{marking}
-use Rattle.model.specs.Walk.{Rules, rulesOf, isEmpty, advance, leastBound, floor}
-use Rattle.model.specs.State.{areMarks, trailOf, capsIn, recordOf, searchOf}
-use Rattle.model.proofs.Walk.Legal.{Legal, advance-legal}
-use Rattle.model.proofs.Theorems.OfList.{rules-k}
-use Rattle.packing.specs.declared.PackedTrail.{PackedTrail}
-use Rattle.packing.specs.Packed.{earlier, Packs}
-use Rattle.keeping.specs.Kept.{Holds}
-use Rattle.running.specs.Run.{patternIn, rulesIn, Startable}
-use Rattle.running.proofs.Openings.{opens, floor-opens, opens-counted, opens-none, lateness, lateness-falls}
+use borrow.Author.Tests.{ltb-true, ltb-false}
+use Rattle.counting.proofs.Joined.{no-way, by-test, and-left, and-right, and-other, pick-true, pick-false}
+use Rattle.model.specs.Walk.{Record, Rules, isEmpty, advance, tried, stands, leastBound, floor}
+use Rattle.running.specs.Trying.{bettered, tryTo, walkTo}
+use Rattle.running.proofs.Tries.{try-keeps, step-stays, step-tries, walk-first}
+use Rattle.running.proofs.Walked.{Going, try-going}
+use Rattle.running.proofs.Openings.{opens, floor-opens, opens-counted, opens-none, lateness, lateness-falls, late-some, late-none, late-most}
 
--- open markings are left to be tried: those of a legal trail, with all that is kept of its marks but the last; they lead to this least bound
-pub record Lowers (P : Pattern) (caps : Caps) (goal : ℕ) (trail : PackedTrail) (least : ℕ) (marks by left kinds tally sums loads : List ℕ) : Type 0 where
-  pub τ : List ℕ
-  pub packs : Packs trail τ
-  pub legal : Legal (rulesOf P caps) τ
-  pub holds : Holds P (marking P (earlier τ)) marks by left kinds tally sums loads
-  pub same : leastBound (rulesOf P caps) least (opens (rulesOf P caps .oneFirst) τ) ≡ goal
+module _ (R : Rules) where
+  -- a try advances the trail,
+  try-advances : (r : Record) → tryTo R 0 r .trail ≡ advance (R .oneFirst) (r .trail)
+  unfolding tried bettered
+  try-advances r =
+      try-keeps R 0 r (λ s. s .trail ≡ advance (R .oneFirst) (r .trail)) (λ up room. no-way (omega arith)) (λ up long. refl) (λ down. refl)
 
--- at first, those of the search
-pub lowers-start :
-    {s : Search} {m : ℕ} {list rows : List ℕ} {k budget : ℕ} (w : Startable s m list rows k budget)
-    {trail : PackedTrail} {marks by left kinds tally sums loads : List ℕ} →
-    ((τ : List ℕ) → length τ ≤ markRoom → areMarks τ ≡ true → s .trail ≡ trailOf τ → Packs trail τ) →
-    Holds (patternIn s m list) (marking (patternIn s m list) (earlier (recordOf s .trail))) marks by left kinds tally sums loads →
-    Lowers (patternIn s m list) (capsIn s) (floor (rulesIn s m list) (recordOf s)) trail (s .«best_count») marks by left kinds tally sums loads
-unfolding recordOf searchOf
-lowers-start {s} {m} {list} w packs holds =
-    record {
-      τ = recordOf s .trail;
-      packs = packs (recordOf s .trail) (omega (arith, w .legal .within, rules-k (patternIn s m list) (capsIn s), w .total, w .few)) (w .legal .marks) (ap (λ (x : Search). x .trail) (w .held));
-      legal = w .legal;
-      holds = holds;
-      same = floor-opens (rulesIn s m list) (recordOf s) (w .ended);
-    }
+  -- and leaves the least of the best count and the trail's bound
+  try-least : (r : Record) → tryTo R 0 r .bestCount ≡ leastBound R (r .bestCount) (r .trail ∷ [])
+  unfolding tried bettered stands leastBound
+  try-least r =
+      try-keeps
+      R
+      0
+      r
+      (λ s. s .bestCount ≡ leastBound R (r .bestCount) (r .trail ∷ []))
+      (λ up room. no-way (omega arith))
+      (λ up long.
+      let b : R .bound (r .trail) < r .bestCount = ltb-true _ _ (and-right _ _ up) in
+      omega (arith, pick-true (min (R .bound (r .trail)) (r .bestCount)) (r .bestCount) (and-left _ _ up)))
+      (λ down.
+      by-test
+      (R .valid (r .trail))
+      (λ fits.
+      let b : r .bestCount ≤ R .bound (r .trail) = ltb-false _ _ (and-other _ _ down fits) in
+      omega (arith, pick-true (min (R .bound (r .trail)) (r .bestCount)) (r .bestCount) fits))
+      (λ unfit. sym (pick-false (min (R .bound (r .trail)) (r .bestCount)) (r .bestCount) unfit)))
 
-module _ {P : Pattern} {caps : Caps} {goal : ℕ} {trail : PackedTrail} {least : ℕ} {marks by left kinds tally sums loads : List ℕ} (l : Lowers P caps goal trail least marks by left kinds tally sums loads) where
-  -- one is tried, and the trail advances
-  pub lowers-next :
-      {next : PackedTrail} {lower : ℕ} {marks′ by′ left′ kinds′ tally′ sums′ loads′ : List ℕ} → isEmpty (l .τ) ≡ false →
-      lower ≡ leastBound (rulesOf P caps) least (l .τ ∷ []) → Packs next (advance (rulesOf P caps .oneFirst) (l .τ)) →
-      Holds P (marking P (earlier (advance (rulesOf P caps .oneFirst) (l .τ)))) marks′ by′ left′ kinds′ tally′ sums′ loads′ →
-      Lowers P caps goal next lower marks′ by′ left′ kinds′ tally′ sums′ loads′
-  lowers-next some lowered packs holds =
-      let R = rulesOf P caps in
-      record {
-        τ = advance (R .oneFirst) (l .τ);
-        packs = packs;
-        legal = advance-legal (l .τ) (l .legal);
-        holds = holds;
-        same = ap (λ (x : ℕ). leastBound R x (opens (R .oneFirst) (advance (R .oneFirst) (l .τ)))) lowered
-            ∙ sym (opens-counted R (R .oneFirst) least (l .τ) some)
-            ∙ l .same;
-      }
+  -- so many tries that none is left to be made
+  least-left :
+      (n : ℕ) (r : Record) → Going R r → lateness (r .trail) ≤ n →
+      walkTo R 0 n r .bestCount ≡ leastBound R (r .bestCount) (opens (R .oneFirst) (r .trail))
+  unfolding walkTo
+  least-left zero r g late =
+      by-test
+      (isEmpty (r .trail))
+      (λ none. sym (opens-none R (R .oneFirst) (r .bestCount) (r .trail) none))
+      (λ some. no-way (omega (arith, late-some (r .trail) (g .legal .marks) some)))
+  least-left (suc n) r g late =
+      ap (λ (s : Record). s .bestCount) (walk-first R 0 n r)
+      ∙ by-test
+      (r .complete)
+      (λ done.
+      ap (λ (s : Record). walkTo R 0 n s .bestCount) (step-stays R 0 r done)
+      ∙ least-left n r g (omega (arith, late-none (r .trail) (sym (g .ended) ∙ done))))
+      (λ going.
+      let s = tryTo R 0 r in
+      let first = R .oneFirst in
+      let some = sym (g .ended) ∙ going in
+      ap (λ (s : Record). walkTo R 0 n s .bestCount) (step-tries R 0 r going)
+      ∙ least-left n s (try-going R 0 r (omega arith) g) (omega (arith, ap lateness (try-advances r), lateness-falls first (r .trail) (g .legal .marks) some))
+      ∙ ap (λ (x : ℕ). leastBound R x (opens first (s .trail))) (try-least r)
+      ∙ ap (λ (τ : List ℕ). leastBound R (leastBound R (r .bestCount) (r .trail ∷ [])) (opens first τ)) (try-advances r)
+      ∙ sym (opens-counted R first (r .bestCount) (r .trail) some))
 
-  -- none is left
-  pub lowers-done : isEmpty (l .τ) ≡ true → least ≡ goal
-  lowers-done none = sym (opens-none (rulesOf P caps) (rulesOf P caps .oneFirst) least (l .τ) none) ∙ l .same
-
--- the lateness of a packed trail
-packed-late : {t : PackedTrail} {τ : List ℕ} → Packs t τ → 3 * t .len - t .top % 4 ≡ lateness τ
-unfolding lateness
-packed-late p = omega (arith, p .long, p .ends)
-
--- it falls when the trail advances
-pub late-falls :
-    (R : Rules) {trail next : PackedTrail} {τ : List ℕ} → Packs trail τ → Packs next (advance (R .oneFirst) τ) → isEmpty τ ≡ false →
-    3 * next .len - next .top % 4 < 3 * trail .len - trail .top % 4
-late-falls R {trail} {next} {τ} p q some =
-    omega (arith, packed-late p, packed-late q, lateness-falls (R .oneFirst) τ (p .marks) some)
+  -- a trail has itself and at most two later marks for each of its marks to be tried
+  pub floor-found : (n : ℕ) (r : Record) → Going R r → 2 * length (r .trail) + 1 ≤ n → walkTo R 0 n r .bestCount ≡ floor R r
+  floor-found n r g enough = least-left n r g (omega (arith, late-most (r .trail))) ∙ floor-opens R r (g .ended)

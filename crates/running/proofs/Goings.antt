@@ -6,21 +6,16 @@ use mathlib.Core.Path.{_≡_, sym, _∙_, ap, subst}
 use Prim.Native.Nat.{ℕ, _-_, _≤_, _<_}
 use native.Mathlib.Omega.{arith}
 use lib.Dec.{ltb}
-use lib.ListN.{length, getD}
+use lib.ListN.{length}
 use borrow.Author.Tests.{leb-true}
 use Rattle.counting.specs.Tests.{_and_, pick}
-use Rattle.counting.specs.Sums.{count}
 use Rattle.counting.proofs.Joined.{by-test, and-left, pick-true, pick-false}
-use Rattle.counting.proofs.Counted.{count-eq}
 use Rattle.model.specs.declared.Caps.{Caps}
-use Rattle.model.specs.Pattern.{Pattern, lines, lineTotal}
+use Rattle.model.specs.Pattern.{Pattern, lineTotal}
 use Rattle.model.specs.Marking.{markAt, marking}
-use Rattle.model.specs.Bound.{L1}
-use Rattle.model.specs.Walk.{Record, Rules, rulesOf, isEmpty, advance, cuts, looksAt, stands}
+use Rattle.model.specs.Walk.{Record, Rules, rulesOf, isEmpty, advance, looksAt, stands}
 use Rattle.model.specs.State.{stack, areMarks}
-use Rattle.model.proofs.Bound.Conditions.{cut-is}
 use Rattle.model.proofs.Order.Places.{lineAt}
-use Rattle.model.proofs.Order.Marks.{cutLine, cut-lines-most, cut-lines-least}
 use Rattle.model.proofs.Walk.Sound.Begins.{whole, longer}
 use Rattle.model.proofs.Walk.Legal.{Legal}
 use Rattle.model.proofs.Walk.Left.{advance-length}
@@ -30,20 +25,6 @@ use Rattle.keeping.specs.Kept.{Holds}
 use Rattle.running.specs.declared.walking.Tried.{Tried}
 use Rattle.running.specs.Walking.{Standing, Next, Attempted}
 use Rattle.running.proofs.Turns.{trail-split, earlier-length, stack-begins, advance-begins, legal-standing}
-
--- the cut lines of a trail of which all is kept
-pub cuts-kept :
-    {P : Pattern} (τ : List ℕ) {marks by left kinds tally sums loads : List ℕ} → length τ ≤ lineTotal P →
-    Holds P (marking P τ) marks by left kinds tally sums loads → getD loads 2 0 ≡ cuts τ
-unfolding L1 cutLine
-cuts-kept {P} τ short h =
-    omega (
-      arith,
-      h .cut-is,
-      count-eq _ (cutLine (marking P τ)) (lines P) (λ l b. cut-is P (marking P τ) l),
-      cut-lines-most P τ,
-      cut-lines-least P τ short,
-    )
 
 -- a trail that stands is valid
 pub stands-valid : (R : Rules) (r : Record) {s : Bool} → s ≡ stands R r → s ≡ true → R .valid (r .trail) ≡ true
@@ -145,12 +126,14 @@ module _ (P : Pattern) (caps : Caps) (τ : List ℕ) (legal : Legal (rulesOf P c
       {p best : ℕ} {t : Tried} {marks by left kinds tally sums loads : List ℕ} →
       Attempted P caps (earlier τ) p best t marks by left kinds tally sums loads → p ≡ lastOf τ →
       (t .stands ≡ rulesOf P caps .valid τ and ltb (rulesOf P caps .bound τ) best)
+      × (t .stands ≡ true → t .least ≡ rulesOf P caps .bound τ)
       × (t .looks ≡ looksAt (rulesOf P caps) τ)
       × Holds P (marking P (pick (t .stands) τ (earlier τ))) marks by left kinds tally sums loads
   attempted-trail {p} {best} {t} {marks} {by} {left} {kinds} {tally} {sums} {loads} a last =
       let R = rulesOf P caps in
       let whole : p ∷ earlier τ ≡ τ = ap (_∷ earlier τ) last ∙ sym split in (
         a .stands-is ∙ ap (λ (ρ : List ℕ). R .valid ρ and ltb (R .bound ρ) best) whole,
+        (λ up. a .least-is up ∙ ap (R .bound) whole),
         a .looks-is ∙ ap (looksAt R) whole,
         subst (λ (ρ : List ℕ). Holds P (marking P (pick (t .stands) ρ (earlier τ))) marks by left kinds tally sums loads) whole (a .holds),
       )

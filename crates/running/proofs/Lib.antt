@@ -1,11 +1,13 @@
 pub mod Behind
 pub mod Turns
+pub mod Tries
 pub mod Goings
 pub mod Outcomes
 pub mod Empty
 pub mod Placed
 pub mod Attempts
 pub mod Walked
+pub mod Exact
 pub mod Beginnings
 pub mod Openings
 pub mod Floored

@@ -3,16 +3,15 @@
 use mathlib.Core.Bool.{Bool, true, false}
 use mathlib.Core.List.{List, [], _∷_, _++_}
 use mathlib.Core.Path.{_≡_, refl, sym, _∙_, ap}
-use Prim.Native.Nat.{ℕ, zero, suc, _-_, _*_, _≤_, _<_, min}
+use Prim.Native.Nat.{ℕ, zero, suc, _+_, _-_, _*_, _≤_, _<_, min}
 use native.Mathlib.Omega.{arith}
 use lib.Dec.{leb}
 use lib.ListN.{length}
 use borrow.Author.Tests.{leb-true}
 use Rattle.counting.specs.Tests.{pick}
-use Rattle.counting.proofs.Joined.{clash, and-left, and-right, pick-true, pick-false}
+use Rattle.counting.proofs.Joined.{clash, and-left, pick-true, pick-false}
 use Rattle.model.specs.Walk.{Record, Rules, isEmpty, oneAllowed, afterZero, advance, putLater, beginningsLater, openMarkings, leastBound, floor}
 use Rattle.model.specs.State.{areMarks}
-use Rattle.packing.specs.Packed.{lastOf}
 
 -- a trail and each beginning of it with its last mark put later; none of an empty trail
 unfoldable pub opens : Bool → List ℕ → List (List ℕ)
@@ -91,9 +90,25 @@ unfolding isEmpty opens leastBound
 opens-none R first best [] e = refl
 opens-none R first best (x ∷ τ) e = clash e refl
 
--- an advanced trail has fewer marks, or a later last one
+-- at most so many open markings: an advanced trail has fewer marks, or a later last one
 unfoldable pub lateness : List ℕ → ℕ
-lateness τ = 3 * length τ - lastOf τ
+lateness [] = 0
+lateness (x ∷ τ) = 2 * length τ + 3 - x
+
+pub late-none : (τ : List ℕ) → isEmpty τ ≡ true → lateness τ ≡ 0
+unfolding lateness isEmpty
+late-none [] e = refl
+late-none (x ∷ τ) e = clash e refl
+
+pub late-some : (τ : List ℕ) → areMarks τ ≡ true → isEmpty τ ≡ false → 1 ≤ lateness τ
+unfolding lateness areMarks isEmpty
+late-some [] marks e = clash refl e
+late-some (x ∷ τ) marks e = omega (arith, leb-true x 2 (and-left (leb x 2) (areMarks τ) marks))
+
+pub late-most : (τ : List ℕ) → lateness τ ≤ 2 * length τ + 1
+unfolding lateness
+late-most [] = omega arith
+late-most (x ∷ τ) = omega arith
 
 after-zero-some : (first : Bool) (τ : List ℕ) → 1 ≤ afterZero first τ
 unfolding afterZero pick
@@ -103,15 +118,15 @@ after-zero-some first τ = go (oneAllowed first τ)
     go true = omega arith
     go false = omega arith
 
-advance-most : (first : Bool) (τ : List ℕ) → lateness (advance first τ) ≤ 3 * length τ
-unfolding lateness advance lastOf
+advance-most : (first : Bool) (τ : List ℕ) → lateness (advance first τ) ≤ 2 * length τ
+unfolding lateness advance
 advance-most first [] = omega arith
-advance-most first (zero ∷ τ) = omega arith
+advance-most first (zero ∷ τ) = omega (arith, after-zero-some first τ)
 advance-most first (suc zero ∷ τ) = omega arith
 advance-most first (suc (suc x) ∷ τ) = omega (arith, advance-most first τ)
 
 pub lateness-falls : (first : Bool) (τ : List ℕ) → areMarks τ ≡ true → isEmpty τ ≡ false → lateness (advance first τ) < lateness τ
-unfolding lateness advance lastOf areMarks isEmpty
+unfolding lateness advance areMarks isEmpty
 lateness-falls first [] marks e = clash refl e
 lateness-falls first (zero ∷ τ) marks e = omega (arith, after-zero-some first τ)
 lateness-falls first (suc zero ∷ τ) marks e = omega arith

@@ -9,25 +9,26 @@ use lib.ListN.{length}
 use Rattle.trail.specs.declared.Trail.{Trail}
 use Rattle.model.specs.Pattern.{Pattern}
 use Rattle.model.specs.Marking.{Marking, marking}
-use Rattle.model.specs.Walk.{Record, Rules, advance, cuts, tried, improved, looksAt, stands, tryOnce}
+use Rattle.model.specs.Walk.{Record, Rules, advance, tried, looksAt, stands}
 use Rattle.model.specs.State.{trailOf, isFound, bestOr}
 use Rattle.packing.specs.declared.PackedTrail.{PackedTrail}
 use Rattle.packing.specs.Packed.{earlier, Packs}
 use Rattle.keeping.specs.Kept.{Holds}
+use Rattle.running.specs.Trying.{bettered, tryTo}
 use Rattle.running.specs.Run.{Goes}
-use Rattle.running.proofs.Turns.{try-grows, try-betters, try-gives-up}
+use Rattle.running.proofs.Tries.{try-grows, try-betters, try-gives-up}
 
-module _ {P : Pattern} (R : Rules) {r : Record} {trail next : PackedTrail} {best : Trail} {count : ℕ} {found : Bool} {looks : ℕ} {marks by left kinds tally sums loads marks′ by′ left′ kinds′ tally′ sums′ loads′ : List ℕ} (g : Goes P r trail best count found looks marks by left kinds tally sums loads) (looks′ : ℕ) (looked : looks′ ≡ looks + looksAt R (r .trail)) where
+module _ {P : Pattern} (R : Rules) (full : ℕ) {r : Record} {trail next : PackedTrail} {best : Trail} {count : ℕ} {found : Bool} {looks : ℕ} {marks by left kinds tally sums loads marks′ by′ left′ kinds′ tally′ sums′ loads′ : List ℕ} (g : Goes P r trail best count found looks marks by left kinds tally sums loads) (looks′ : ℕ) (looked : looks′ ≡ looks + looksAt R (r .trail)) where
   -- the trail grows
   pub goes-grown :
-      stands R r ≡ true → ltb (length (r .trail)) (R .k) ≡ true → Packs next (0 ∷ r .trail) →
+      stands R r ≡ true → ltb (length (r .trail)) full ≡ true → Packs next (0 ∷ r .trail) →
       Holds P (marking P (r .trail)) marks′ by′ left′ kinds′ tally′ sums′ loads′ →
-      Goes P (tryOnce R r) next best count found looks′ marks′ by′ left′ kinds′ tally′ sums′ loads′
+      Goes P (tryTo R full r) next best count found looks′ marks′ by′ left′ kinds′ tally′ sums′ loads′
   unfolding tried earlier
   goes-grown up short packs holds =
       subst
       (λ (q : Record). Goes P q next best count found looks′ marks′ by′ left′ kinds′ tally′ sums′ loads′)
-      (try-grows R r up short)
+      (try-grows R full r up short)
       (record {
         packs = packs;
         best-is = g .best-is;
@@ -40,15 +41,15 @@ module _ {P : Pattern} (R : Rules) {r : Record} {trail next : PackedTrail} {best
   -- it becomes the best marking
   pub goes-bettered :
       (better : Trail) (fewer : ℕ) →
-      stands R r ≡ true → ltb (length (r .trail)) (R .k) ≡ false → Packs next (advance (R .oneFirst) (r .trail)) →
-      better ≡ trailOf (r .trail) → fewer ≡ cuts (r .trail) →
+      stands R r ≡ true → ltb (length (r .trail)) full ≡ false → Packs next (advance (R .oneFirst) (r .trail)) →
+      better ≡ trailOf (r .trail) → fewer ≡ R .bound (r .trail) →
       Holds P (marking P (earlier (advance (R .oneFirst) (r .trail)))) marks′ by′ left′ kinds′ tally′ sums′ loads′ →
-      Goes P (tryOnce R r) next better fewer true looks′ marks′ by′ left′ kinds′ tally′ sums′ loads′
-  unfolding tried improved isFound bestOr
+      Goes P (tryTo R full r) next better fewer true looks′ marks′ by′ left′ kinds′ tally′ sums′ loads′
+  unfolding tried bettered isFound bestOr
   goes-bettered better fewer up long packs new few holds =
       subst
       (λ (q : Record). Goes P q next better fewer true looks′ marks′ by′ left′ kinds′ tally′ sums′ loads′)
-      (try-betters R r up long)
+      (try-betters R full r up long)
       (record {
         packs = packs;
         best-is = new;
@@ -62,12 +63,12 @@ module _ {P : Pattern} (R : Rules) {r : Record} {trail next : PackedTrail} {best
   pub goes-given-up :
       stands R r ≡ false → Packs next (advance (R .oneFirst) (r .trail)) →
       Holds P (marking P (earlier (advance (R .oneFirst) (r .trail)))) marks′ by′ left′ kinds′ tally′ sums′ loads′ →
-      Goes P (tryOnce R r) next best count found looks′ marks′ by′ left′ kinds′ tally′ sums′ loads′
+      Goes P (tryTo R full r) next best count found looks′ marks′ by′ left′ kinds′ tally′ sums′ loads′
   unfolding tried
   goes-given-up down packs holds =
       subst
       (λ (q : Record). Goes P q next best count found looks′ marks′ by′ left′ kinds′ tally′ sums′ loads′)
-      (try-gives-up R r down)
+      (try-gives-up R full r down)
       (record {
         packs = packs;
         best-is = g .best-is;

@@ -2,7 +2,6 @@
 -- Assumes nothing.
 use mathlib.Core.Bool.{Bool, true}
 use mathlib.Core.List.{List}
-use mathlib.Core.Option.{some}
 use mathlib.Core.Path.{_≡_}
 use Prim.Native.Nat.{ℕ, _+_, _*_, _≤_, _<_}
 use lib.ListN.{length, getD}
@@ -10,7 +9,7 @@ use Rattle.trail.specs.Trail.{markRoom}
 use Rattle.trail.specs.declared.Trail.{Trail}
 use Rattle.model.specs.declared.Caps.{Caps}
 use Rattle.model.specs.declared.Search.{Search}
-use Rattle.model.specs.Limits.{lineRoom, triesLimit}
+use Rattle.model.specs.Limits.{lineRoom, budgetLimit, triesLimit}
 use Rattle.model.specs.Pattern.{Pattern, patternOf, lineCount, lineTotal}
 use Rattle.model.specs.Marking.{marking}
 use Rattle.model.specs.Walk.{Record, Rules, rulesOf, isEmpty}
@@ -41,16 +40,15 @@ patternIn s m list = patternOf m (s .n) (s .nonzeros) list
 abbrev pub rulesIn : Search → ℕ → List ℕ → Rules
 rulesIn s m list = rulesOf (patternIn s m list) (capsIn s)
 
--- a search that is not refused, with the tables of its rows and k at hand, and room for the tries to be made
+-- a search that is not refused, with the table of its rows at hand, at most k marks for a full trail, and room for the tries to be made
 pub record Startable (s : Search) (m : ℕ) (list rows : List ℕ) (k budget : ℕ) : Type 0 where
-  pub room : s .tries + budget ≤ triesLimit
+  pub room : s .tries + budget ≤ triesLimit + budgetLimit
   pub held : s ≡ searchOf (recordOf s)
   pub listed : Listed m (s .n) (s .nonzeros) list rows
-  pub total : k ≡ lineTotal (patternIn s m list)
-  pub few : k ≤ markRoom
+  pub within : k ≤ lineTotal (patternIn s m list)
+  pub few : lineTotal (patternIn s m list) ≤ markRoom
   pub legal : Legal (rulesIn s m list) (recordOf s .trail)
   pub ended : s .complete ≡ isEmpty (recordOf s .trail)
-  pub best-fits : (τ : List ℕ) → recordOf s .best ≡ some τ → length τ ≤ k
   pub looked : s .looks ≤ s .tries * (m * s .nonzeros)
 
 -- a trail whose marks but the last can be placed, with the tables of its pattern

@@ -49,6 +49,7 @@ pub record Next (P : Pattern) (caps : Caps) (τ : List ℕ) (l p : ℕ) : Type 0
 -- what a try with that mark answers, and what is kept after it: the mark too if it stands
 pub record Attempted (P : Pattern) (caps : Caps) (τ : List ℕ) (p best : ℕ) (r : Tried) (marks by left kinds tally sums loads : List ℕ) : Type 0 where
   pub stands-is : r .stands ≡ rulesOf P caps .valid (p ∷ τ) and ltb (rulesOf P caps .bound (p ∷ τ)) best
+  pub least-is : r .stands ≡ true → r .least ≡ rulesOf P caps .bound (p ∷ τ)
   pub looks-is : r .looks ≡ looksAt (rulesOf P caps) (p ∷ τ)
   pub holds : Holds P (marking P (pick (r .stands) (p ∷ τ) τ)) marks by left kinds tally sums loads
 

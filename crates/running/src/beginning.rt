@@ -22,13 +22,14 @@ ghost use Prim.Native.Nat.{ℕ, _*_};
 ghost use Rattle.model.specs.Limits.{lineRoom};
 ghost use Rattle.model.specs.declared.Caps.{Caps};
 ghost use Rattle.model.specs.Pattern.{Pattern};
-ghost use Rattle.model.specs.Walk.{rulesOf, walk};
+ghost use Rattle.model.specs.Walk.{rulesOf};
 ghost use Rattle.model.specs.State.{marksIn, recordOf, searchOf};
 ghost use Rattle.model.proofs.Walk.Legal.{Legal};
 ghost use Rattle.packing.specs.Packed.{earlier};
 ghost use Rattle.keeping.specs.Tied.{tallyRoom};
 ghost use Rattle.running.specs.Arrays.{Zeros, Neutral};
 ghost use Rattle.running.specs.Walking.{LineTables, Tabled};
+ghost use Rattle.running.specs.Trying.{walkTo};
 ghost use Rattle.running.specs.Run.{patternIn, rulesIn, Startable, Keepable, Keeps, Readied};
 
 // No crossing line is marked.
@@ -146,7 +147,7 @@ pub(crate) fn kept_of(
     }
 }
 
-// So many tries from a search, with the tables of its pattern.
+// So many tries from a search, with the tables of its pattern and k marks for a full trail.
 fn walk_from(
     search: Search,
     m: u16,
@@ -160,7 +161,7 @@ fn walk_from(
     budget: u64,
 ) -> Search
     requires { ⌜ Startable search m (now list) (now rows) k budget × Tabled (patternIn search m (now list)) (now counts) (now starts) (now cross) (now order) ⌝ }
-    ensures { λ s. ⌜ s ≡ searchOf (walk (rulesIn search m (now (list .entry))) budget (recordOf search)) ⌝ }
+    ensures { λ s. ⌜ s ≡ searchOf (walkTo (rulesIn search m (now (list .entry))) k budget (recordOf search)) ⌝ }
 {
     let kept = kept_of(search.trail, counts, starts, cross, order);
     let mut marks = kept.marks;
@@ -191,7 +192,7 @@ fn walk_from(
     )
 }
 
-// So many tries from a search, or fewer only because it became complete.
+// So many tries from a search, or fewer only because it became complete, with k marks for a full trail.
 pub(crate) fn run_from(
     search: Search,
     m: u16,
@@ -205,7 +206,7 @@ pub(crate) fn run_from(
     budget: u64,
 ) -> Search
     requires { ⌜ Readied search m n nonzeros (now list) (now counts) (now places) (now rows) k budget ⌝ }
-    ensures { λ s. ⌜ s ≡ searchOf (walk (rulesIn search m (now (list .entry))) budget (recordOf search)) ⌝ }
+    ensures { λ s. ⌜ s ≡ searchOf (walkTo (rulesIn search m (now (list .entry))) k budget (recordOf search)) ⌝ }
 {
     let lines = lines_of(m, n);
     let starts = line_starts(counts, lines);

@@ -28,7 +28,6 @@ mod beginning;
 mod counts;
 mod deciding;
 pub mod evaluating;
-mod flooring;
 mod kinds;
 mod marks;
 pub mod presenting;

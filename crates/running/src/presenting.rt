@@ -1,5 +1,5 @@
 // A showing: the split in the lent parts, its volume, and the floor.
-use crate::flooring::floor_of;
+use crate::beginning::run_from;
 use bound::tables::places;
 use marking::marks::marks_by_line;
 use marking::order::line_counts;
@@ -36,7 +36,8 @@ ghost use Rattle.bound.specs.Evaluated.{Listed, Placed};
 ghost use Rattle.running.specs.Run.{Tryable};
 ghost use Rattle.running.specs.Showing.{roomBy};
 
-// The floor of a search that is not refused; of a complete one it is the best count.
+// The floor of a search that is not refused. Every open marking is tried and taken as full: the trail, and at most two later marks for each of
+// its own. Each that stands lowers the best count to its bound.
 fn floor_shown(
     search: Search,
     m: u16,
@@ -55,7 +56,21 @@ fn floor_shown(
         return search.best_count;
     }
     let from = normal(search);
-    floor_of(from, m, n, nonzeros, list, counts, places, starts)
+    let trail = from.trail;
+    let open = 2 * trail.len + 1;
+    let after = run_from(
+        from,
+        m,
+        n,
+        nonzeros,
+        list,
+        counts,
+        places,
+        starts,
+        0,
+        open as u64,
+    );
+    after.best_count
 }
 
 // Writes the split that a marking shows to the parts, and gives its volume.

@@ -14,15 +14,14 @@ use model::limits::SIDE_ENDS;
 use packing::packed;
 use pattern::cap::unequal_caps;
 use pattern::reading::less;
-use pattern::reading::long16;
 use pattern::reading::wide16;
 ghost use mathlib.Core.Bool.{not};
 ghost use mathlib.Core.Path.{_≡_};
 ghost use Prim.Native.Nat.{_-_, _≤_};
-ghost use lib.Dec.{eqb, ltb, leb};
+ghost use lib.Dec.{eqb, ltb};
 ghost use Rattle.counting.specs.Tests.{_and_, pick};
-ghost use Rattle.model.specs.Walk.{walk};
 ghost use Rattle.model.specs.State.{recordOf, searchOf};
+ghost use Rattle.running.specs.Trying.{walkTo};
 ghost use Rattle.running.specs.Run.{rulesIn, Walkable};
 
 // There are marks to be tried, and tries are left.
@@ -43,7 +42,7 @@ fn placed_of(stands: bool, len: usize) -> usize
     if stands { len } else { len - 1 }
 }
 
-// So many tries from a search, or fewer only because it became complete.
+// So many tries from a search, or fewer only because it became complete, with k marks for a full trail.
 pub(crate) fn walk_on(
     search: Search,
     m: u16,
@@ -64,7 +63,7 @@ pub(crate) fn walk_on(
     budget: u64,
 ) -> Search
     requires { ⌜ Walkable search m (now list) (now rows) (now counts) (now starts) (now cross) (now order) (now marks) (now by) (now left) (now kinds) (now tally) (now sums) (now loads) k budget ⌝ }
-    ensures { λ s. ⌜ s ≡ searchOf (walk (rulesIn search m (now (list .entry))) budget (recordOf search)) ⌝ }
+    ensures { λ s. ⌜ s ≡ searchOf (walkTo (rulesIn search m (now (list .entry))) k budget (recordOf search)) ⌝ }
 {
     let caps = Caps {
         cap0: search.cap0,
@@ -104,7 +103,7 @@ pub(crate) fn walk_on(
         looks = looks + tried.looks;
         if both_of(tried.stands, full <= len) {
             best = trail.unpacked();
-            count = long16(loads[2]);
+            count = tried.least;
             found = true;
         }
         if both_of(tried.stands, len < full) {

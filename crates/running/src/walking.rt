@@ -27,9 +27,10 @@ ghost use Rattle.crossing.specs.Crossing.{Laid, Ordered};
 ghost use Rattle.keeping.specs.Kept.{Holds};
 ghost use Rattle.running.specs.Walking.{Standing, Next, Attempted, Attemptable, Liftable, Layable};
 
-// Whether a trail stands, and the looks of its try.
+// Whether a trail stands, the least of the best count and its bound, and the looks of its try.
 pub(crate) struct Tried {
     pub stands: bool,
+    pub least: u64,
     pub looks: u64,
 }
 
@@ -81,17 +82,20 @@ pub(crate) fn try_mark(
         if least < best {
             return Tried {
                 stands: true,
+                least,
                 looks: judged.looks,
             };
         }
         pop(starts, cross, marks, by, left, kinds, tally, sums, loads, l);
         return Tried {
             stands: false,
+            least,
             looks: judged.looks,
         };
     }
     Tried {
         stands: false,
+        least: best,
         looks: 0,
     }
 }

@@ -5,6 +5,7 @@ use Rattle.model.specs.declared.Verdict.the-variants.{Accepted}
 use Rattle.pattern.proofs.Verdicts.{accepted-tag}
 use Rattle.running.specs.Budget.{budgetBy}
 use Rattle.running.proofs.Budgets.{budget-within, from-readied, run-taken, run-refused}
+use native.Mathlib.Omega.{arith}
 use borrow.Author.Needs.{needs}
 use Rattle.running.proofs.run_fine.Statement.{statement}
 use Rattle.running.proofs.run_fine.Tie as tie
@@ -28,7 +29,7 @@ normal-requires c κs = search needs
 run-from-requires : tie.Need-run-from-requires
 run-from-requires c κs =
     let start = c .before .before .before .before .before in
-    from-readied _ _ _ _ _ _ _ _ (start .args .search) _ (start .pre) (c .normal .ensures) (start .args .budget) (budget-within _ _ (accepted (c .before .before)))
+    from-readied _ _ _ _ _ _ _ _ (start .args .search) _ (start .pre) (c .normal .ensures) (start .args .k) (start .args .budget) (omega arith) (let b = budget-within _ _ (accepted (c .before .before)) in omega arith)
 
 ended-as-requires : tie.Need-ended-as-requires
 ended-as-requires c κs = search needs

@@ -13,18 +13,19 @@ use Rattle.counting.proofs.Joined.{no-way, fails, and-left, and-right, and-othe
 use Rattle.model.specs.declared.Search.{Search}
 use Rattle.counting.specs.Tests.{pick}
 use Rattle.model.specs.Marking.{markAt, marking}
-use Rattle.model.specs.Walk.{Record, rulesOf, isEmpty, advance, looksAt, stands, walk}
+use Rattle.model.specs.Walk.{Record, rulesOf, isEmpty, advance, looksAt, stands}
 use Rattle.keeping.specs.Kept.{Holds}
 use Rattle.model.specs.State.{stack, capsIn, recordOf}
 use Rattle.packing.specs.Packed.{earlier, lastOf, Packs}
 use Rattle.running.specs.Walking.{Standing, Next}
+use Rattle.running.specs.Trying.{walkTo}
 use Rattle.running.specs.Run.{Goes, patternIn, rulesIn}
 use Rattle.running.proofs.Turns.{trail-split, earlier-length}
-use Rattle.model.proofs.Theorems.OfList.{rules-k, rules-first}
+use Rattle.model.proofs.Theorems.OfList.{rules-first}
 use Rattle.packing.specs.declared.PackedTrail.{PackedTrail}
 use Rattle.running.proofs.Attempts.{next-line}
 use Rattle.running.proofs.Outcomes.{goes-grown, goes-bettered, goes-given-up, holds-same, goes-same}
-use Rattle.running.proofs.Goings.{next-room, next-mark, attempted-trail, stands-by, placed-standing, placed-holds, lifted-holds, lifted-fewer, stands-valid, cuts-kept, trail-short}
+use Rattle.running.proofs.Goings.{next-room, next-mark, attempted-trail, stands-by, placed-standing, placed-holds, lifted-holds, lifted-fewer, stands-valid}
 use Rattle.running.proofs.Walked.{none-empty, going-at, goes-start, looks-room, run-ends, one-more, tries-more}
 use Rattle.running.proofs.trying.walk_on.Statement.{statement}
 use Rattle.running.proofs.trying.walk_on.Tie as tie
@@ -38,7 +39,6 @@ use Rattle.packing.proofs.PackedTrail.unpacked.Reads as unpacked-reads
 use Rattle.packing.proofs.packed.Reads as packed-reads
 use Rattle.pattern.proofs.cap.unequal_caps.Reads as unequal-caps-reads
 use Rattle.pattern.proofs.reading.less.Reads as less-reads
-use Rattle.pattern.proofs.reading.long16.Reads as long16-reads
 use Rattle.pattern.proofs.reading.wide16.Reads as wide16-reads
 use Rattle.running.proofs.trying.goes_on.Reads as goes-on-reads
 use Rattle.running.proofs.trying.placed_of.Reads as placed-of-reads
@@ -48,22 +48,22 @@ use Rattle.running.proofs.walking.try_mark.Reads as try-mark-reads
 abbrev Inv-loop : tie.InvT-loop
 Inv-loop search m list rows counts starts cross order marks₀ by₀ left₀ kinds₀ tally₀ sums₀ loads₀ k budget caps first full trail₀ best₀ count₀ found₀ looks₀ made₀ marks by left kinds tally sums loads trail best count found looks made =
     (made ≤ budget)
-    × (walk (rulesIn search m list) made (recordOf search) .tries ≡ search .tries + made)
-    × Goes (patternIn search m list) (walk (rulesIn search m list) made (recordOf search)) trail best count found looks marks by left kinds tally sums loads
+    × (walkTo (rulesIn search m list) k made (recordOf search) .tries ≡ search .tries + made)
+    × Goes (patternIn search m list) (walkTo (rulesIn search m list) k made (recordOf search)) trail best count found looks marks by left kinds tally sums loads
 
 abbrev μ-loop : tie.MeasureT-loop
 μ-loop search m list rows counts starts cross order marks₀ by₀ left₀ kinds₀ tally₀ sums₀ loads₀ k budget caps first full trail₀ best₀ count₀ found₀ looks₀ made₀ marks by left kinds tally sums loads trail best count found looks made =
     budget - made
 
 -- the walk's record before a try
-abbrev at : Search → ℕ → List ℕ → ℕ → Record
-at search m list made = walk (rulesIn search m list) made (recordOf search)
+abbrev at : Search → ℕ → List ℕ → ℕ → ℕ → Record
+at search m list k made = walkTo (rulesIn search m list) k made (recordOf search)
 
 -- where a try is to be made
 abbrev Begun : Type 0
-Begun = lts.Then1 (unequal-caps-reads.Asked, unequal-caps-reads.Learnt, wide16-reads.Asked, wide16-reads.Learnt, packed-reads.Asked, packed-reads.Learnt, goes-on-reads.Asked, goes-on-reads.Learnt, last-reads.Asked, last-reads.Learnt, try-mark-reads.Asked, try-mark-reads.Learnt, both-of-reads.Asked, both-of-reads.Learnt, unpacked-reads.Asked, unpacked-reads.Learnt, long16-reads.Asked, long16-reads.Learnt, append-reads.Asked, append-reads.Learnt, advance-reads.Asked, advance-reads.Learnt, placed-of-reads.Asked, placed-of-reads.Learnt, less-reads.Asked, less-reads.Learnt, lift-reads.Asked, lift-reads.Learnt) reads.Pre reads.Post Inv-loop μ-loop
+Begun = lts.Then1 (unequal-caps-reads.Asked, unequal-caps-reads.Learnt, wide16-reads.Asked, wide16-reads.Learnt, packed-reads.Asked, packed-reads.Learnt, goes-on-reads.Asked, goes-on-reads.Learnt, last-reads.Asked, last-reads.Learnt, try-mark-reads.Asked, try-mark-reads.Learnt, both-of-reads.Asked, both-of-reads.Learnt, unpacked-reads.Asked, unpacked-reads.Learnt, append-reads.Asked, append-reads.Learnt, advance-reads.Asked, advance-reads.Learnt, placed-of-reads.Asked, placed-of-reads.Learnt, less-reads.Asked, less-reads.Learnt, lift-reads.Asked, lift-reads.Learnt) reads.Pre reads.Post Inv-loop μ-loop
 
-some : (g : Begun) → let s = g .before .before .before .before .before .before .before .before in isEmpty (at (s .args .search) (s .args .m) (s .args .list .now) (g .before .before .loop .made) .trail) ≡ false
+some : (g : Begun) → let s = g .before .before .before .before .before .before .before .before in isEmpty (at (s .args .search) (s .args .m) (s .args .list .now) (s .args .k) (g .before .before .loop .made) .trail) ≡ false
 some g =
     let l = g .before .before .loop in
     sym (none-empty _ (l .trail .len) (l .inv .2 .packs .long))
@@ -80,10 +80,10 @@ long g =
 
 -- the last mark and its line
 next :
-    (a : lts.After-last (unequal-caps-reads.Asked, unequal-caps-reads.Learnt, wide16-reads.Asked, wide16-reads.Learnt, packed-reads.Asked, packed-reads.Learnt, goes-on-reads.Asked, goes-on-reads.Learnt, last-reads.Asked, last-reads.Learnt, try-mark-reads.Asked, try-mark-reads.Learnt, both-of-reads.Asked, both-of-reads.Learnt, unpacked-reads.Asked, unpacked-reads.Learnt, long16-reads.Asked, long16-reads.Learnt, append-reads.Asked, append-reads.Learnt, advance-reads.Asked, advance-reads.Learnt, placed-of-reads.Asked, placed-of-reads.Learnt, less-reads.Asked, less-reads.Learnt, lift-reads.Asked, lift-reads.Learnt) reads.Pre reads.Post Inv-loop μ-loop) →
+    (a : lts.After-last (unequal-caps-reads.Asked, unequal-caps-reads.Learnt, wide16-reads.Asked, wide16-reads.Learnt, packed-reads.Asked, packed-reads.Learnt, goes-on-reads.Asked, goes-on-reads.Learnt, last-reads.Asked, last-reads.Learnt, try-mark-reads.Asked, try-mark-reads.Learnt, both-of-reads.Asked, both-of-reads.Learnt, unpacked-reads.Asked, unpacked-reads.Learnt, append-reads.Asked, append-reads.Learnt, advance-reads.Asked, advance-reads.Learnt, placed-of-reads.Asked, placed-of-reads.Learnt, less-reads.Asked, less-reads.Learnt, lift-reads.Asked, lift-reads.Learnt) reads.Pre reads.Post Inv-loop μ-loop) →
     let s = a .before .before .before .before .before .before .before .before .before .before .before in
     let P = patternIn (s .args .search) (s .args .m) (s .args .list .now) in
-    let r = at (s .args .search) (s .args .m) (s .args .list .now) (a .before .before .before .before .before .loop .made) in
+    let r = at (s .args .search) (s .args .m) (s .args .list .now) (s .args .k) (a .before .before .before .before .before .loop .made) in
     Next P (capsIn (s .args .search)) (earlier (r .trail)) (a .before .wide162 .result) (a .last .result) × (a .last .result ≡ lastOf (r .trail))
 next a =
     let g = a .before .before .before in
@@ -91,7 +91,7 @@ next a =
     let s = a .before .before .before .before .before .before .before .before .before .before .before in
     let w = s .pre in
     let P = patternIn (s .args .search) (s .args .m) (s .args .list .now) in
-    let r = at (s .args .search) (s .args .m) (s .args .list .now) (l .made) in
+    let r = at (s .args .search) (s .args .m) (s .args .list .now) (s .args .k) (l .made) in
     let legal = going-at (w .startable) (l .made) .legal in
     let packs = l .inv .2 .packs in
     let d : l .trail .len - 1 ≡ length (earlier (r .trail)) = omega (arith, packs .long, earlier-length (r .trail)) in
@@ -101,12 +101,13 @@ next a =
 
 -- what the try answered
 judged :
-    (t : lts.After-try-mark (unequal-caps-reads.Asked, unequal-caps-reads.Learnt, wide16-reads.Asked, wide16-reads.Learnt, packed-reads.Asked, packed-reads.Learnt, goes-on-reads.Asked, goes-on-reads.Learnt, last-reads.Asked, last-reads.Learnt, try-mark-reads.Asked, try-mark-reads.Learnt, both-of-reads.Asked, both-of-reads.Learnt, unpacked-reads.Asked, unpacked-reads.Learnt, long16-reads.Asked, long16-reads.Learnt, append-reads.Asked, append-reads.Learnt, advance-reads.Asked, advance-reads.Learnt, placed-of-reads.Asked, placed-of-reads.Learnt, less-reads.Asked, less-reads.Learnt, lift-reads.Asked, lift-reads.Learnt) reads.Pre reads.Post Inv-loop μ-loop) →
+    (t : lts.After-try-mark (unequal-caps-reads.Asked, unequal-caps-reads.Learnt, wide16-reads.Asked, wide16-reads.Learnt, packed-reads.Asked, packed-reads.Learnt, goes-on-reads.Asked, goes-on-reads.Learnt, last-reads.Asked, last-reads.Learnt, try-mark-reads.Asked, try-mark-reads.Learnt, both-of-reads.Asked, both-of-reads.Learnt, unpacked-reads.Asked, unpacked-reads.Learnt, append-reads.Asked, append-reads.Learnt, advance-reads.Asked, advance-reads.Learnt, placed-of-reads.Asked, placed-of-reads.Learnt, less-reads.Asked, less-reads.Learnt, lift-reads.Asked, lift-reads.Learnt) reads.Pre reads.Post Inv-loop μ-loop) →
     let s = t .before .before .before .before .before .before .before .before .before .before .before .before .before .before .before .before .before .before .before in
     let P = patternIn (s .args .search) (s .args .m) (s .args .list .now) in
     let R = rulesIn (s .args .search) (s .args .m) (s .args .list .now) in
-    let r = at (s .args .search) (s .args .m) (s .args .list .now) (t .before .before .before .before .before .before .before .before .before .before .before .before .before .loop .made) in
+    let r = at (s .args .search) (s .args .m) (s .args .list .now) (s .args .k) (t .before .before .before .before .before .before .before .before .before .before .before .before .before .loop .made) in
     (t .try-mark .result .stands ≡ stands R r)
+    × (t .try-mark .result .stands ≡ true → t .try-mark .result .least ≡ R .bound (r .trail))
     × (t .try-mark .result .looks ≡ looksAt R (r .trail))
     × Holds P (marking P (pick (t .try-mark .result .stands) (r .trail) (earlier (r .trail)))) (t .try-mark .last .1 .1 .1 .1 .1 .1 .0) (t .try-mark .last .1 .1 .1 .1 .1 .1 .1 .0) (t .try-mark .last .1 .1 .1 .1 .1 .1 .1 .1 .0) (t .try-mark .last .1 .1 .1 .1 .1 .1 .1 .1 .1 .0) (t .try-mark .last .1 .1 .1 .1 .1 .1 .1 .1 .1 .1 .0) (t .try-mark .last .1 .1 .1 .1 .1 .1 .1 .1 .1 .1 .1 .0) (t .try-mark .last .1 .1 .1 .1 .1 .1 .1 .1 .1 .1 .1 .1 .0)
 judged t =
@@ -115,13 +116,13 @@ judged t =
     let s = t .before .before .before .before .before .before .before .before .before .before .before .before .before .before .before .before .before .before .before in
     let w = s .pre in
     let P = patternIn (s .args .search) (s .args .m) (s .args .list .now) in
-    let r = at (s .args .search) (s .args .m) (s .args .list .now) (l .made) in
+    let r = at (s .args .search) (s .args .m) (s .args .list .now) (s .args .k) (l .made) in
     let n = next a in
     let e =
     attempted-trail P _ (r .trail) (going-at (w .startable) (l .made) .legal) (some (t .before .before .before .before .before .before .before .before .before .before .before))
     (t .try-mark .ensures (s .args .search .n) (s .args .search .nonzeros) (earlier (r .trail)) (w .startable .listed) (w .tabled .laid) (w .tabled .counts-are _ (next-line (w .tabled .laid .inside) (n .0))) (n .0) (l .inv .2 .holds))
     (n .1) in
-    (stands-by _ r (l .count) (e .0) (l .inv .2 .count-is), e .1, e .2)
+    (stands-by _ r (l .count) (e .0) (l .inv .2 .count-is), e .1, e .2, e .3)
 
 unequal-caps-requires : tie.Need-unequal-caps-requires Inv-loop μ-loop
 unequal-caps-requires c κs = search needs
@@ -133,7 +134,7 @@ packed-requires : tie.Need-packed-requires Inv-loop μ-loop
 packed-requires c κs = search needs
 
 loop-holds : tie.Need-loop-holds Inv-loop μ-loop
-unfolding walk recordOf
+unfolding walkTo recordOf
 loop-holds c =
     let s = c .before .before .before .before .before in
     (omega arith, omega arith, goes-start (s .pre .startable) (c .before .packed .ensures) (s .pre .holds))
@@ -166,7 +167,7 @@ try-mark-requires c κs =
     record {
       n = s .args .search .n;
       nonzeros = s .args .search .nonzeros;
-      τ = earlier (at (s .args .search) (s .args .m) (s .args .list .now) (l .made) .trail);
+      τ = earlier (at (s .args .search) (s .args .m) (s .args .list .now) (s .args .k) (l .made) .trail);
       listed = w .startable .listed;
       laid = w .tabled .laid;
       counts-is = w .tabled .counts-are _ (next-line (w .tabled .laid .inside) (n .0));
@@ -178,19 +179,13 @@ add-looks : tie.Need-add-looks Inv-loop μ-loop
 add-looks c =
     let t = c .before in
     let l = t .before .before .before .before .before .before .before .before .before .before .before .before .before .loop in
-    record { fits = looks-room (t .before .before .before .before .before .before .before .before .before .before .before .before .before .before .before .before .before .before .before .pre .startable) (l .made) (l .looks) _ (left (t .before .before .before .before .before .before .before .before .before .before .before)) (l .inv .1) (l .inv .2 .looks-is) (judged t .1) }
+    record { fits = looks-room (t .before .before .before .before .before .before .before .before .before .before .before .before .before .before .before .before .before .before .before .pre .startable) (l .made) (l .looks) _ (left (t .before .before .before .before .before .before .before .before .before .before .before)) (l .inv .1) (l .inv .2 .looks-is) (judged t .2) }
 
 both-of-requires : tie.Need-both-of-requires Inv-loop μ-loop
 both-of-requires c κs = search needs
 
 unpacked-requires : tie.Need-unpacked-requires Inv-loop μ-loop
 unpacked-requires c κs = search needs
-
-element-copy-out-long16 : tie.Need-element-copy-out-long16 Inv-loop μ-loop
-element-copy-out-long16 c = search needs
-
-long16-requires : tie.Need-long16-requires Inv-loop μ-loop
-long16-requires c κs = search needs
 
 both-of-requires-2 : tie.Need-both-of-requires-2 Inv-loop μ-loop
 both-of-requires-2 c κs = search needs
@@ -214,7 +209,7 @@ lift-requires c κs =
     let s = t .before .before .before .before .before .before .before .before .before .before .before .before .before .before .before .before .before .before .before in
     let w = s .pre in
     let P = patternIn (s .args .search) (s .args .m) (s .args .list .now) in
-    let r = at (s .args .search) (s .args .m) (s .args .list .now) (l .made) in
+    let r = at (s .args .search) (s .args .m) (s .args .list .now) (s .args .k) (l .made) in
     let legal = going-at (w .startable) (l .made) .legal in
     let j = judged t in
     let from = c .before .placed-of .ensures in
@@ -227,7 +222,7 @@ lift-requires c κs =
       standing = subst (λ (x : ℕ). Standing (rulesOf P (capsIn (s .args .search))) (stack (markAt (r .trail)) x)) (sym from)
           (placed-standing P _ (r .trail) legal (some (t .before .before .before .before .before .before .before .before .before .before .before)) _ (l .trail .len) (l .inv .2 .packs .long) (stands-valid _ r (j .0)));
       holds = subst (λ (x : ℕ). Holds P (marking P (stack (markAt (r .trail)) x)) (t .try-mark .last .1 .1 .1 .1 .1 .1 .0) (t .try-mark .last .1 .1 .1 .1 .1 .1 .1 .0) (t .try-mark .last .1 .1 .1 .1 .1 .1 .1 .1 .0) (t .try-mark .last .1 .1 .1 .1 .1 .1 .1 .1 .1 .0) (t .try-mark .last .1 .1 .1 .1 .1 .1 .1 .1 .1 .1 .0) (t .try-mark .last .1 .1 .1 .1 .1 .1 .1 .1 .1 .1 .1 .0) (t .try-mark .last .1 .1 .1 .1 .1 .1 .1 .1 .1 .1 .1 .1 .0)) (sym from)
-          (placed-holds P _ (r .trail) legal (some (t .before .before .before .before .before .before .before .before .before .before .before)) _ (l .trail .len) (l .inv .2 .packs .long) (j .2));
+          (placed-holds P _ (r .trail) legal (some (t .before .before .before .before .before .before .before .before .before .before .before)) _ (l .trail .len) (l .inv .2 .packs .long) (j .3));
     }
 
 add-made : tie.Need-add-made Inv-loop μ-loop
@@ -245,12 +240,12 @@ loop-again c =
     let w = s .pre in
     let P = patternIn (s .args .search) (s .args .m) (s .args .list .now) in
     let R = rulesIn (s .args .search) (s .args .m) (s .args .list .now) in
-    let r = at (s .args .search) (s .args .m) (s .args .list .now) (l .made) in
+    let r = at (s .args .search) (s .args .m) (s .args .list .now) (s .args .k) (l .made) in
     let legal = going-at (w .startable) (l .made) .legal in
     let j = judged t in
     let goes = l .inv .2 in
-    let looked = ap (λ (x : ℕ). l .looks + x) (j .1) in
-    let full : t .before .before .before .before .before .before .before .before .before .before .before .before .before .before .before .before .wide16 .result ≡ R .k = t .before .before .before .before .before .before .before .before .before .before .before .before .before .before .before .before .wide16 .ensures .0 ∙ w .startable .total ∙ sym (rules-k P _) in
+    let looked = ap (λ (x : ℕ). l .looks + x) (j .2) in
+    let full : t .before .before .before .before .before .before .before .before .before .before .before .before .before .before .before .before .wide16 .result ≡ s .args .k = t .before .before .before .before .before .before .before .before .before .before .before .before .before .before .before .before .wide16 .ensures .0 in
     let first = t .before .before .before .before .before .before .before .before .before .before .before .before .before .before .before .before .before .unequal-caps .ensures ∙ sym (rules-first P _) in
     let more = one-more (w .startable) (l .made) (some g) in
     let better = sym (c .before .before .before .both-of .ensures) in
@@ -264,9 +259,9 @@ loop-again c =
           let up = and-left _ _ (deeper ∙ u .0 .taken) in
           let short : l .trail .len < t .before .before .before .before .before .before .before .before .before .before .before .before .before .before .before .before .wide16 .result = ltb-true _ _ (and-right _ _ (deeper ∙ u .0 .taken)) in
           let next =
-          goes-grown R goes _ looked (sym (j .0) ∙ up) (lt-ltb (length (r .trail)) (R .k) (omega (arith, goes .packs .long)))
-          (subst (λ (x : PackedTrail). Packs x (0 ∷ r .trail)) (sym (u .9)) (u .1 .ensures (r .trail) (goes .packs) (omega (arith, goes .packs .long, w .startable .few, w .startable .total, rules-k P (capsIn (s .args .search)))) (omega arith)))
-          (holds-same (u .2) (u .3) (u .4) (u .5) (u .6) (u .7) (u .8) (subst (λ (ρ : List ℕ). Holds P (marking P ρ) (t .try-mark .last .1 .1 .1 .1 .1 .1 .0) (t .try-mark .last .1 .1 .1 .1 .1 .1 .1 .0) (t .try-mark .last .1 .1 .1 .1 .1 .1 .1 .1 .0) (t .try-mark .last .1 .1 .1 .1 .1 .1 .1 .1 .1 .0) (t .try-mark .last .1 .1 .1 .1 .1 .1 .1 .1 .1 .1 .0) (t .try-mark .last .1 .1 .1 .1 .1 .1 .1 .1 .1 .1 .1 .0) (t .try-mark .last .1 .1 .1 .1 .1 .1 .1 .1 .1 .1 .1 .1 .0)) (pick-true (r .trail) (earlier (r .trail)) up) (j .2))) in
+          goes-grown R (s .args .k) goes _ looked (sym (j .0) ∙ up) (lt-ltb (length (r .trail)) (s .args .k) (omega (arith, goes .packs .long)))
+          (subst (λ (x : PackedTrail). Packs x (0 ∷ r .trail)) (sym (u .9)) (u .1 .ensures (r .trail) (goes .packs) (omega (arith, goes .packs .long, w .startable .few, w .startable .within)) (omega arith)))
+          (holds-same (u .2) (u .3) (u .4) (u .5) (u .6) (u .7) (u .8) (subst (λ (ρ : List ℕ). Holds P (marking P ρ) (t .try-mark .last .1 .1 .1 .1 .1 .1 .0) (t .try-mark .last .1 .1 .1 .1 .1 .1 .1 .0) (t .try-mark .last .1 .1 .1 .1 .1 .1 .1 .1 .0) (t .try-mark .last .1 .1 .1 .1 .1 .1 .1 .1 .1 .0) (t .try-mark .last .1 .1 .1 .1 .1 .1 .1 .1 .1 .1 .0) (t .try-mark .last .1 .1 .1 .1 .1 .1 .1 .1 .1 .1 .1 .0) (t .try-mark .last .1 .1 .1 .1 .1 .1 .1 .1 .1 .1 .1 .1 .0)) (pick-true (r .trail) (earlier (r .trail)) up) (j .3))) in
           ⊎-elim
           (λ v. no-way (omega (arith, leb-true (t .before .before .before .before .before .before .before .before .before .before .before .before .before .before .before .before .wide16 .result) (l .trail .len) (and-right _ _ (better ∙ v .0 .taken)))))
           (λ v. goes-same more (v .1) (v .2) (v .3) next)
@@ -275,7 +270,7 @@ loop-again c =
           let caps = capsIn (s .args .search) in
           let from = u .9 .ensures in
           let standing = subst (λ (x : ℕ). Standing (rulesOf P caps) (stack (markAt (r .trail)) x)) (sym from) (placed-standing P caps (r .trail) legal (some g) _ (l .trail .len) (goes .packs .long) (stands-valid R r (j .0))) in
-          let held = subst (λ (x : ℕ). Holds P (marking P (stack (markAt (r .trail)) x)) (t .try-mark .last .1 .1 .1 .1 .1 .1 .0) (t .try-mark .last .1 .1 .1 .1 .1 .1 .1 .0) (t .try-mark .last .1 .1 .1 .1 .1 .1 .1 .1 .0) (t .try-mark .last .1 .1 .1 .1 .1 .1 .1 .1 .1 .0) (t .try-mark .last .1 .1 .1 .1 .1 .1 .1 .1 .1 .1 .0) (t .try-mark .last .1 .1 .1 .1 .1 .1 .1 .1 .1 .1 .1 .0) (t .try-mark .last .1 .1 .1 .1 .1 .1 .1 .1 .1 .1 .1 .1 .0)) (sym from) (placed-holds P caps (r .trail) legal (some g) _ (l .trail .len) (goes .packs .long) (j .2)) in
+          let held = subst (λ (x : ℕ). Holds P (marking P (stack (markAt (r .trail)) x)) (t .try-mark .last .1 .1 .1 .1 .1 .1 .0) (t .try-mark .last .1 .1 .1 .1 .1 .1 .1 .0) (t .try-mark .last .1 .1 .1 .1 .1 .1 .1 .1 .0) (t .try-mark .last .1 .1 .1 .1 .1 .1 .1 .1 .1 .0) (t .try-mark .last .1 .1 .1 .1 .1 .1 .1 .1 .1 .1 .0) (t .try-mark .last .1 .1 .1 .1 .1 .1 .1 .1 .1 .1 .1 .0) (t .try-mark .last .1 .1 .1 .1 .1 .1 .1 .1 .1 .1 .1 .1 .0)) (sym from) (placed-holds P caps (r .trail) legal (some g) _ (l .trail .len) (goes .packs .long) (j .3)) in
           let advanced = subst (λ (b : Bool). Packs (u .1 .result) (advance b (r .trail))) first (u .1 .ensures (r .trail) (goes .packs)) in
           let packs = subst (λ (x : PackedTrail). Packs x (advance (R .oneFirst) (r .trail))) (sym (u .19)) advanced in
           let to = u .10 .ensures ∙ ap (λ (x : ℕ). x - 1) (advanced .long) in
@@ -287,12 +282,11 @@ loop-again c =
           (λ v.
           let up = and-left _ _ (better ∙ v .0 .taken) in
           let long : t .before .before .before .before .before .before .before .before .before .before .before .before .before .before .before .before .wide16 .result ≤ l .trail .len = leb-true _ _ (and-right _ _ (better ∙ v .0 .taken)) in
-          let whole = subst (λ (ρ : List ℕ). Holds P (marking P ρ) (t .try-mark .last .1 .1 .1 .1 .1 .1 .0) (t .try-mark .last .1 .1 .1 .1 .1 .1 .1 .0) (t .try-mark .last .1 .1 .1 .1 .1 .1 .1 .1 .0) (t .try-mark .last .1 .1 .1 .1 .1 .1 .1 .1 .1 .0) (t .try-mark .last .1 .1 .1 .1 .1 .1 .1 .1 .1 .1 .0) (t .try-mark .last .1 .1 .1 .1 .1 .1 .1 .1 .1 .1 .1 .0) (t .try-mark .last .1 .1 .1 .1 .1 .1 .1 .1 .1 .1 .1 .1 .0)) (pick-true (r .trail) (earlier (r .trail)) up) (j .2) in
-          goes-same more (v .4) (v .5) (v .6)
-          (goes-bettered R goes _ looked _ _ (sym (j .0) ∙ up) (le-ltb (length (r .trail)) (R .k) (omega (arith, goes .packs .long))) packs (v .1 .ensures (r .trail) (goes .packs)) (v .3 .ensures .0 ∙ cuts-kept (r .trail) (trail-short P caps (r .trail) legal (some g)) whole) holds))
+          goes-same more (v .2) (v .3) (v .4)
+          (goes-bettered R (s .args .k) goes _ looked _ _ (sym (j .0) ∙ up) (le-ltb (length (r .trail)) (s .args .k) (omega (arith, goes .packs .long))) packs (v .1 .ensures (r .trail) (goes .packs)) (j .1 up) holds))
           (λ v.
           let down : t .try-mark .result .stands ≡ false = fails _ (λ up. no-way (neither up (u .0 .left) (v .0 .left))) in
-          goes-same more (v .1) (v .2) (v .3) (goes-given-up R goes _ looked (sym (j .0) ∙ down) packs holds))
+          goes-same more (v .1) (v .2) (v .3) (goes-given-up R (s .args .k) goes _ looked (sym (j .0) ∙ down) packs holds))
           (c .before .before .if2 .came))
           (c .if3 .came),
     )
@@ -328,8 +322,6 @@ walk-on-spec =
     add-looks
     both-of-requires
     unpacked-requires
-    element-copy-out-long16
-    long16-requires
     both-of-requires-2
     append-requires
     advance-requires

@@ -141,7 +141,7 @@ returns c = λ n nonzeros τ listed laid counts next holds.
     let g : Given s n nonzeros τ = record { listed = listed; laid = laid; counts-is = counts; next = next; holds = holds } in
     let e = placed (c .before .before .before .before .before .before .before) n nonzeros τ g in
     let j = judged (c .before) n nonzeros τ g in
-    attempt-fit (laid .inside) next _ (e .0) _ (j .0) (sym (lt-ltb _ _ (c .if2 .taken))) (j .1) (with-holds (laid .inside) next (e .2))
+    attempt-fit (laid .inside) next _ (e .0) (j .0) (sym (lt-ltb _ _ (c .if2 .taken))) (j .1) (with-holds (laid .inside) next (e .2))
 
 pop-requires : tie.Need-pop-requires
 pop-requires c κs =
@@ -166,7 +166,7 @@ returns-2 c = λ n nonzeros τ listed laid counts next holds.
     let e = placed (c .before .before .before .before .before .before .before .before .before .before .before .before .before .before .before) n nonzeros τ g in
     let j = judged (c .before .before .before .before .before .before .before .before .before) n nonzeros τ g in
     let up = c .before .before .before .before .before .before .before .before .if2 .left in
-    attempt-fit (laid .inside) next _ (e .0) _ (j .0) (sym (le-ltb _ _ up)) (j .1) (c .pop .ensures P (marking P τ) (s .args .p) laid (e .1) (e .2))
+    attempt-fit (laid .inside) next _ (e .0) (j .0) (sym (le-ltb _ _ up)) (j .1) (c .pop .ensures P (marking P τ) (s .args .p) laid (e .1) (e .2))
 
 returns-3 : tie.Need-returns-3
 returns-3 c = λ n nonzeros τ listed laid counts next holds.
