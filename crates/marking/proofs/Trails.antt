@@ -1,6 +1,6 @@
 -- The trail's methods do to a trail what the walk does to a marking.
 -- Assumes nothing.
-use mathlib.Core.Bool.{Bool, true, false}
+use mathlib.Core.Bool.{Bool}
 use mathlib.Core.List.{List, [], _∷_}
 use mathlib.Core.Path.{_≡_, refl, sym, _∙_, ap}
 use Prim.Native.Nat.{ℕ, zero, suc, _+_, _≤_, _<_}
@@ -10,14 +10,14 @@ use lib.Dec.{eqb}
 use lib.ListN.{length, getD, set}
 use lib.Seq.{getD-set-other}
 use borrow.Author.Tests.{lt-ltb, le-ltb, ne-eqb}
-use Rattle.counting.specs.Tests.{_or_, pick}
+use Rattle.counting.specs.Tests.{_or_}
 use Rattle.counting.proofs.Joined.{no-way, or-eq, or-fails, pick-true}
 use Rattle.trail.specs.declared.Trail.{Trail}
-use Rattle.trail.specs.Trail.{markRoom, topOf, trailWith, withMark, appended, dropped, markOr, lastMark, replaced, replacedAt, isPart, givesPartIn, oneAt, mayBeOne}
-use Rattle.trail.proofs.Methods.{top-suc, at-top, at-none, dropped-at}
+use Rattle.trail.specs.Trail.{markRoom, trailWith, withMark, appended, dropped, markOr, isPart, givesPartIn, oneAt}
+use Rattle.trail.proofs.Methods.{dropped-at}
 use Rattle.model.specs.Walk.{givesPart, oneAllowed}
 use Rattle.model.specs.State.{stack, marksIn, arrayOf, trailOf}
-use Rattle.model.proofs.State.Arrays.{array-last, array-before, array-again, array-dropped, array-stack}
+use Rattle.model.proofs.State.Arrays.{array-dropped}
 use Rattle.model.proofs.Order.Mirrored.{stack-eq}
 
 -- one mark more
@@ -33,27 +33,6 @@ unfolding trailOf
 dropped-is x τ b =
     dropped-at (trailOf (x ∷ τ)) (length τ) refl b
     ∙ ap (λ (a : List ℕ). trailWith a (length τ)) (array-dropped x τ)
-
--- the last mark, or none
-pub last-is : (x none : ℕ) (τ : List ℕ) → length τ < markRoom → lastMark (trailOf (x ∷ τ)) none ≡ x
-unfolding lastMark markOr trailOf
-last-is x none τ b =
-    at-top (λ (at : ℕ). getD (arrayOf (x ∷ τ)) at 0) none (suc (length τ)) (length τ) refl b ∙ array-last x τ b
-
-pub last-none : (none : ℕ) → lastMark (trailOf []) none ≡ none
-unfolding lastMark markOr trailOf
-last-none none = at-none (getD (arrayOf []) (topOf 0) 0) none
-
--- another last mark
-pub replaced-is : (x y : ℕ) (τ : List ℕ) → length τ < markRoom → replaced (trailOf (x ∷ τ)) y ≡ trailOf (y ∷ τ)
-unfolding replaced replacedAt trailOf
-replaced-is x y τ b =
-    at-top (λ (at : ℕ). withMark (trailOf (x ∷ τ)) at y (suc (length τ))) (trailOf (x ∷ τ)) (suc (length τ)) (length τ) refl b
-    ∙ ap (λ (a : List ℕ). trailWith a (suc (length τ))) (array-again x y τ)
-
-pub replaced-none : (y : ℕ) → replaced (trailOf []) y ≡ trailOf []
-unfolding replaced replacedAt trailOf
-replaced-none y = at-none (withMark (trailOf []) (topOf 0) y 0) (trailOf [])
 
 -- the marks before an index that the array has, as a marking
 pub marks-before : (marks : List ℕ) (d : ℕ) → d ≤ markRoom → stack (markOr 0 marks) d ≡ stack (λ i. getD marks i 0) d
@@ -99,15 +78,3 @@ gives-is marks (suc d) = or-eq (part-tests (markOr 0 marks d)) (gives-is marks d
 pub one-at-is : (first : Bool) (marks : List ℕ) (d : ℕ) → oneAt first marks d ≡ oneAllowed first (stack (markOr 0 marks) d)
 unfolding oneAt oneAllowed
 one-at-is first marks d = ap (λ (part : Bool). first or part) (gives-is marks d)
-
--- mark 1 is allowed as the last mark
-pub may-is : (first : Bool) (x : ℕ) (τ : List ℕ) → length τ < markRoom → mayBeOne first (trailOf (x ∷ τ)) ≡ oneAllowed first τ
-unfolding mayBeOne trailOf
-may-is first x τ b =
-    ap (oneAt first (arrayOf (x ∷ τ))) (top-suc (length τ))
-    ∙ one-at-is first (arrayOf (x ∷ τ)) (length τ)
-    ∙ ap
-    (oneAllowed first)
-    (marks-before (arrayOf (x ∷ τ)) (length τ) (omega arith)
-    ∙ stack-eq (λ i. getD (arrayOf (x ∷ τ)) i 0) (λ i. getD (arrayOf τ) i 0) (length τ) (array-before x τ)
-    ∙ array-stack τ (omega arith))

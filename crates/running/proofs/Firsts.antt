@@ -17,10 +17,10 @@ use Rattle.keeping.specs.Kept.{markingWith, Holds}
 use Rattle.keeping.proofs.Marked.{with-same, with-other}
 use Rattle.keeping.proofs.Holding.{holds-eq}
 use Rattle.keeping.proofs.Placing.{placeable}
-use Rattle.running.specs.Evaluating.{firstMarks, Settable}
+use Rattle.running.specs.Laying.{firstMarks, Settable}
 
 -- a line before l has its mark, if it is one
-first-before : (μ : Marking) (l z : ℕ) → z < l → firstMarks μ l z ≡ min (μ z) unmarked
+pub first-before : (μ : Marking) (l z : ℕ) → z < l → firstMarks μ l z ≡ min (μ z) unmarked
 unfolding firstMarks
 first-before μ l z b = pick-true (min (μ z) unmarked) unmarked (lt-ltb z l b)
 

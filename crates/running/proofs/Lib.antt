@@ -8,6 +8,7 @@ pub mod Placed
 pub mod Attempts
 pub mod Walked
 pub mod Exact
+pub mod Firsts
 pub mod Beginnings
 pub mod Openings
 pub mod Floored
@@ -15,6 +16,5 @@ pub mod Budgets
 pub mod Answered
 pub mod Shows
 pub mod Splits
-pub mod Firsts
 pub mod StruckFew
 pub mod Evaluated

@@ -1,4 +1,4 @@
--- Marks of a trail placed and lifted one by one: each is a mark for the line at its place.
+-- Marks of a trail lifted one by one: each is a mark for the line at its place.
 -- Assumes nothing.
 use mathlib.Core.List.{List, _∷_}
 use mathlib.Core.Logic.{⊎-elim}
@@ -66,7 +66,7 @@ module _ {P : Pattern} (inside : Inside P) (caps : Caps) (mark : ℕ → ℕ) (d
   line : l ≡ lineAt P (length (stack mark d))
   line = there ∙ ap (lineAt P) (sym (stack-length mark d))
 
-  -- the mark can be placed on it
+  -- the mark could be placed on it
   pub place-next : Placeable P (marking P (stack mark d)) l (mark d)
   place-next =
       subst
@@ -88,12 +88,7 @@ module _ {P : Pattern} (inside : Inside P) (caps : Caps) (mark : ℕ → ℕ) (d
       ∙ ap (λ (τ : List ℕ). marking P τ z) (sym one-more)
 
   module _ {marks by left kinds tally sums loads : List ℕ} where
-    -- with it all that is kept is that of one mark more
-    pub place-holds :
-        Holds P (markingWith (marking P (stack mark d)) l (mark d)) marks by left kinds tally sums loads →
-        Holds P (marking P (stack mark (d + 1))) marks by left kinds tally sums loads
-    place-holds h = holds-eq inside (marking P (stack mark (d + 1))) same h
-
+    -- with it all that is kept of one mark more is that of the marking with it
     pub lift-holds :
         Holds P (marking P (stack mark (d + 1))) marks by left kinds tally sums loads →
         Holds P (markingWith (marking P (stack mark d)) l (mark d)) marks by left kinds tally sums loads

@@ -3,6 +3,7 @@ pub mod Arrays
 pub mod Judging
 pub mod Walking
 pub mod Trying
+pub mod Laying
 pub mod Run
 pub mod Showing
 pub mod Evaluating

@@ -7,20 +7,18 @@ use Prim.Native.Nat.{ℕ, _+_, _*_, _≤_, _<_}
 use lib.ListN.{length, getD}
 use Rattle.trail.specs.Trail.{markRoom}
 use Rattle.trail.specs.declared.Trail.{Trail}
-use Rattle.model.specs.declared.Caps.{Caps}
 use Rattle.model.specs.declared.Search.{Search}
 use Rattle.model.specs.Limits.{lineRoom, budgetLimit, triesLimit}
 use Rattle.model.specs.Pattern.{Pattern, patternOf, lineCount, lineTotal}
 use Rattle.model.specs.Marking.{marking}
 use Rattle.model.specs.Walk.{Record, Rules, rulesOf, isEmpty}
-use Rattle.model.specs.State.{marksIn, trailOf, isFound, bestOr, capsIn, recordOf, searchOf, stateFine}
+use Rattle.model.specs.State.{trailOf, isFound, bestOr, capsIn, recordOf, searchOf, stateFine}
 use Rattle.model.proofs.Walk.Legal.{Legal}
 use Rattle.packing.specs.declared.PackedTrail.{PackedTrail}
 use Rattle.packing.specs.Packed.{earlier, Packs}
 use Rattle.bound.specs.Evaluated.{Listed, Placed}
 use Rattle.keeping.specs.Kept.{Holds}
 use Rattle.state.specs.Ready.{Ready}
-use Rattle.running.specs.declared.beginning.Kept.{Kept}
 use Rattle.running.specs.Walking.{Tabled}
 
 -- a record of the walk between two tries: its trail packed, its best marking, best count and looks, and what is kept of its marks but the last
@@ -50,17 +48,6 @@ pub record Startable (s : Search) (m : ℕ) (list rows : List ℕ) (k budget : �
   pub legal : Legal (rulesIn s m list) (recordOf s .trail)
   pub ended : s .complete ≡ isEmpty (recordOf s .trail)
   pub looked : s .looks ≤ s .tries * (m * s .nonzeros)
-
--- a trail whose marks but the last can be placed, with the tables of its pattern
-pub record Keepable (trail : Trail) (counts starts cross order : List ℕ) : Type 0 where
-  pub pattern : Pattern
-  pub caps : Caps
-  pub tabled : Tabled pattern counts starts cross order
-  pub legal : Legal (rulesOf pattern caps) (marksIn trail)
-
--- all that is kept of these marks, as one value
-abbrev pub Keeps : Pattern → List ℕ → Kept → Type 0
-Keeps P τ k = Holds P (marking P τ) (k .marks) (k .by) (k .left) (k .kinds) (k .tally) (k .sums) (k .loads)
 
 -- a search that is not refused, with the tables of its lines and all that is kept of its trail but the last mark
 pub record Walkable (s : Search) (m : ℕ) (list rows counts starts cross order marks by left kinds tally sums loads : List ℕ) (k budget : ℕ) : Type 0 where

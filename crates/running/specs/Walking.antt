@@ -73,12 +73,3 @@ pub record Liftable (starts cross order marks by left kinds tally sums loads : L
   pub ordered : Ordered pattern order
   pub standing : Standing (rulesOf pattern caps) (stack mark from)
   pub holds : Holds pattern (marking pattern (stack mark from)) marks by left kinds tally sums loads
-
--- marks of an array can be placed, up to so many
-pub record Layable (starts cross order trail marks by left kinds tally sums loads : List ℕ) (end : ℕ) : Type 0 where
-  pub pattern : Pattern
-  pub caps : Caps
-  pub laid : Laid pattern starts cross
-  pub ordered : Ordered pattern order
-  pub standing : Standing (rulesOf pattern caps) (stack (λ i. getD trail i 0) end)
-  pub holds : Holds pattern (marking pattern []) marks by left kinds tally sums loads

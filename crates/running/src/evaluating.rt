@@ -1,17 +1,11 @@
 // A marking of any set of lines, evaluated by the functions that a run judges by.
-use crate::beginning::Kept;
-use crate::beginning::none_kept;
 use crate::deciding::judge;
 use crate::deciding::strike_part;
-use crate::marks::push;
-use crate::room::BY_ROOM;
+use crate::laying::Kept;
+use crate::laying::kept_of;
 use crate::room::CONFLICTS_PLACE;
-use crate::room::LOAD_ROOM;
-use crate::room::SUM_ROOM;
-use crate::room::TALLY_ROOM;
 use crate::room::TORN_PLACE;
 use bound::lower::matched_of;
-use crossing::CROSS_ROOM;
 use crossing::laying::crossings;
 use crossing::starting::line_starts;
 use marking::order::line_counts;
@@ -27,23 +21,21 @@ use weighing::taking::Taken;
 use weighing::taking::is_valid;
 use weighing::taking::taken_of;
 ghost use mathlib.Core.Bool.{true, false};
-ghost use mathlib.Core.List.{List, []};
+ghost use mathlib.Core.List.{List};
 ghost use mathlib.Core.Path.{_≡_};
-ghost use Prim.Native.Nat.{ℕ, _+_, _≤_, _<_, min};
+ghost use Prim.Native.Nat.{ℕ, _+_, _≤_, _<_};
 ghost use Rattle.model.specs.Limits.{lineLimit};
-ghost use Rattle.model.specs.declared.Caps.{Caps};
 ghost use Rattle.model.specs.declared.Verdict.the-variants.{Accepted};
-ghost use Rattle.model.specs.Pattern.{Pattern, patternOf, lines};
-ghost use Rattle.model.specs.Marking.{Marking, marking, unmarked, valid};
+ghost use Rattle.model.specs.Pattern.{patternOf};
+ghost use Rattle.model.specs.Marking.{Marking, unmarked, valid};
 ghost use Rattle.model.specs.Calls.{listVerdict};
 ghost use Rattle.weighing.specs.Cells.{markingIn};
 ghost use Rattle.weighing.specs.Taking.{TakenOf};
 ghost use Rattle.bound.specs.Evaluated.{Listed};
 ghost use Rattle.crossing.specs.Crossing.{Laid};
-ghost use Rattle.keeping.specs.Kept.{Holds, markingWith};
+ghost use Rattle.keeping.specs.Kept.{Holds};
 ghost use Rattle.running.specs.Judging.{Judgeable};
-ghost use Rattle.running.specs.Walking.{LineTables};
-ghost use Rattle.running.specs.Evaluating.{firstMarks, Settable, SettableIn, Givable, KeepableMarks, NoBound, Evaluates};
+ghost use Rattle.running.specs.Evaluating.{NoBound, Evaluates};
 
 // No line of an accepted list has more nonzeros.
 const TOP: u16 = 300;
@@ -60,126 +52,6 @@ pub struct Evaluation {
     pub matched: u64,
     pub least: u64,
     pub looks: u64,
-}
-
-// Line l, which is unmarked, gets mark p, or none where p is no mark.
-fn place_if(
-    starts: &[u16; LINE_ROOM],
-    cross: &[u16; CROSS_ROOM],
-    marks: &mut [u8; LINE_ROOM],
-    by: &mut [u16; BY_ROOM],
-    left: &mut [u16; LINE_ROOM],
-    kinds: &mut [u8; LINE_ROOM],
-    tally: &mut [u16; TALLY_ROOM],
-    sums: &mut [u32; SUM_ROOM],
-    loads: &mut [u16; LOAD_ROOM],
-    l: usize,
-    p: u8,
-)
-    requires { ⌜ SettableIn (now starts) (now cross) (now marks) (now by) (now left) (now kinds) (now tally) (now sums) (now loads) l p ⌝ }
-    ensures { λ _. ⌜ ((P : Pattern) (μ : Marking) → Laid P (now (starts .entry)) (now (cross .entry)) → Settable P μ l p →
-        Holds P μ (now (marks .entry)) (now (by .entry)) (now (left .entry)) (now (kinds .entry)) (now (tally .entry)) (now (sums .entry)) (now (loads .entry)) →
-        Holds P (markingWith μ l (min p unmarked)) (now (marks .exit)) (now (by .exit)) (now (left .exit)) (now (kinds .exit)) (now (tally .exit)) (now (sums .exit)) (now (loads .exit))) ⌝ }
-{
-    if p < 3 {
-        push(
-            starts,
-            cross,
-            marks,
-            by,
-            left,
-            kinds,
-            tally,
-            sums,
-            loads,
-            l,
-            p,
-        );
-    }
-}
-
-// Places the marks of an array by line, line by line.
-fn place_all(
-    starts: &[u16; LINE_ROOM],
-    cross: &[u16; CROSS_ROOM],
-    given: &[u8; LINE_ROOM],
-    marks: &mut [u8; LINE_ROOM],
-    by: &mut [u16; BY_ROOM],
-    left: &mut [u16; LINE_ROOM],
-    kinds: &mut [u8; LINE_ROOM],
-    tally: &mut [u16; TALLY_ROOM],
-    sums: &mut [u32; SUM_ROOM],
-    loads: &mut [u16; LOAD_ROOM],
-    end: usize,
-)
-    requires { ⌜ Givable (now starts) (now cross) (now given) (now marks) (now by) (now left) (now kinds) (now tally) (now sums) (now loads) end ⌝ }
-    ensures { λ _. ⌜ ((P : Pattern) (caps : Caps) → Laid P (now (starts .entry)) (now (cross .entry)) → end ≡ lines P →
-        valid P caps (markingIn (now (given .entry))) ≡ true →
-        Holds P (marking P []) (now (marks .entry)) (now (by .entry)) (now (left .entry)) (now (kinds .entry)) (now (tally .entry)) (now (sums .entry)) (now (loads .entry)) →
-        Holds P (firstMarks (markingIn (now (given .entry))) end) (now (marks .exit)) (now (by .exit)) (now (left .exit)) (now (kinds .exit)) (now (tally .exit)) (now (sums .exit)) (now (loads .exit))) ⌝ }
-{
-    let mut l: usize = 0;
-    while l < end {
-        place_if(
-            starts,
-            cross,
-            marks,
-            by,
-            left,
-            kinds,
-            tally,
-            sums,
-            loads,
-            l,
-            given[l],
-        );
-        l += 1;
-    }
-}
-
-// All that is kept of a valid marking, with the tables of its pattern.
-fn kept_marks(
-    given: &[u8; LINE_ROOM],
-    counts: &[u16; LINE_ROOM],
-    starts: &[u16; LINE_ROOM],
-    cross: &[u16; CROSS_ROOM],
-    end: usize,
-) -> Kept
-    requires { ⌜ KeepableMarks (now given) (now counts) (now starts) (now cross) end ⌝ }
-    ensures { λ r. ⌜ ((P : Pattern) (caps : Caps) → LineTables P (now (counts .entry)) (now (starts .entry)) (now (cross .entry)) → end ≡ lines P →
-        valid P caps (markingIn (now (given .entry))) ≡ true →
-        Holds P (firstMarks (markingIn (now (given .entry))) end) (r .marks) (r .by) (r .left) (r .kinds) (r .tally) (r .sums) (r .loads)) ⌝ }
-{
-    let none = none_kept(counts);
-    let mut marks = none.marks;
-    let mut by = none.by;
-    let mut left = none.left;
-    let mut kinds = none.kinds;
-    let mut tally = none.tally;
-    let mut sums = none.sums;
-    let mut loads = none.loads;
-    place_all(
-        starts,
-        cross,
-        given,
-        &mut marks,
-        &mut by,
-        &mut left,
-        &mut kinds,
-        &mut tally,
-        &mut sums,
-        &mut loads,
-        end,
-    );
-    Kept {
-        marks,
-        by,
-        left,
-        kinds,
-        tally,
-        sums,
-        loads,
-    }
 }
 
 // The evaluation of a valid marking, from what it takes and what is kept of it.
@@ -258,7 +130,7 @@ fn evaluate_valid(
     let counts = line_counts(m, n, nonzeros, list);
     let starts = line_starts(&counts, lines);
     let cross = crossings(m, n, nonzeros, list, &starts);
-    let kept = kept_marks(given, &counts, &starts, &cross, wide16(lines));
+    let kept = kept_of(given, &counts, &starts, &cross, wide16(lines));
     evaluate_kept(m, list, &rows, kept, taken, caps, best)
 }
 

@@ -29,6 +29,7 @@ mod counts;
 mod deciding;
 pub mod evaluating;
 mod kinds;
+mod laying;
 mod marks;
 pub mod presenting;
 mod room;

@@ -1,4 +1,4 @@
-// Marks placed and lifted along the trail, and a try with one mark more.
+// A try with one mark more, and marks lifted along the trail.
 use crate::deciding::is_fit;
 use crate::deciding::judge;
 use crate::marks::pop;
@@ -12,7 +12,6 @@ use model::Caps;
 use model::limits::LINE_ROOM;
 use model::limits::SIDE_ENDS;
 use pattern::reading::wide16;
-use trail::MARK_ROOM;
 ghost use mathlib.Core.List.{List, []};
 ghost use mathlib.Core.Path.{_≡_};
 ghost use Prim.Native.Nat.{ℕ, _≤_};
@@ -25,7 +24,7 @@ ghost use Rattle.model.specs.State.{stack};
 ghost use Rattle.bound.specs.Evaluated.{Listed};
 ghost use Rattle.crossing.specs.Crossing.{Laid, Ordered};
 ghost use Rattle.keeping.specs.Kept.{Holds};
-ghost use Rattle.running.specs.Walking.{Standing, Next, Attempted, Attemptable, Liftable, Layable};
+ghost use Rattle.running.specs.Walking.{Standing, Next, Attempted, Attemptable, Liftable};
 
 // Whether a trail stands, the least of the best count and its bound, and the looks of its try.
 pub(crate) struct Tried {
@@ -126,46 +125,5 @@ pub(crate) fn lift(
         at -= 1;
         let l = wide16(order[at]);
         pop(starts, cross, marks, by, left, kinds, tally, sums, loads, l);
-    }
-}
-
-// Places the first marks of an array, so many.
-pub(crate) fn lay(
-    starts: &[u16; LINE_ROOM],
-    cross: &[u16; CROSS_ROOM],
-    order: &[u16; LINE_ROOM],
-    trail: &[u8; MARK_ROOM],
-    marks: &mut [u8; LINE_ROOM],
-    by: &mut [u16; BY_ROOM],
-    left: &mut [u16; LINE_ROOM],
-    kinds: &mut [u8; LINE_ROOM],
-    tally: &mut [u16; TALLY_ROOM],
-    sums: &mut [u32; SUM_ROOM],
-    loads: &mut [u16; LOAD_ROOM],
-    end: usize,
-)
-    requires { ⌜ Layable (now starts) (now cross) (now order) (now trail) (now marks) (now by) (now left) (now kinds) (now tally) (now sums) (now loads) end ⌝ }
-    ensures { λ _. ⌜ ((P : Pattern) (caps : Caps) → Laid P (now (starts .entry)) (now (cross .entry)) →
-        Ordered P (now (order .entry)) → Standing (rulesOf P caps) (stack (λ i. getD (now (trail .entry)) i 0) end) →
-        Holds P (marking P []) (now (marks .entry)) (now (by .entry)) (now (left .entry)) (now (kinds .entry)) (now (tally .entry)) (now (sums .entry)) (now (loads .entry)) →
-        Holds P (marking P (stack (λ i. getD (now (trail .entry)) i 0) end)) (now (marks .exit)) (now (by .exit)) (now (left .exit)) (now (kinds .exit)) (now (tally .exit)) (now (sums .exit)) (now (loads .exit))) ⌝ }
-{
-    let mut at: usize = 0;
-    while at < end {
-        let l = wide16(order[at]);
-        push(
-            starts,
-            cross,
-            marks,
-            by,
-            left,
-            kinds,
-            tally,
-            sums,
-            loads,
-            l,
-            trail[at],
-        );
-        at += 1;
     }
 }

@@ -1,17 +1,17 @@
 -- Laws of the trail's methods.
 -- Assumes nothing.
-use mathlib.Core.Bool.{true, false}
+use mathlib.Core.Bool.{false}
 use mathlib.Core.List.{List}
-use mathlib.Core.Path.{_≡_, refl, sym, _∙_, ap}
-use Prim.Native.Nat.{ℕ, zero, suc, _+_, _-_, _<_}
+use mathlib.Core.Path.{_≡_, refl, _∙_, ap}
+use Prim.Native.Nat.{ℕ, suc, _+_, _-_, _<_}
 use native.Mathlib.Numerals.{add-one}
 use native.Mathlib.Omega.{arith}
-use lib.Dec.{ltb, eqb}
-use borrow.Author.Tests.{lt-ltb, le-ltb, ltb-true, eqb-true, eqb-false}
+use lib.Dec.{ltb}
+use borrow.Author.Tests.{lt-ltb, le-ltb}
 use Rattle.counting.specs.Tests.{_or_, pick}
-use Rattle.counting.proofs.Joined.{no-way, by-test, or-left, or-right, pick-true, pick-false}
+use Rattle.counting.proofs.Joined.{pick-true, pick-false}
 use Rattle.trail.specs.declared.Trail.{Trail}
-use Rattle.trail.specs.Trail.{markRoom, topOf, hasLast, withMark, dropped, droppedAt, markOr, isPart, givesPartIn}
+use Rattle.trail.specs.Trail.{markRoom, topOf, withMark, dropped, droppedAt, markOr, isPart, givesPartIn}
 
 -- no mark before the first, and one mark more
 pub gives-none : (marks : List ℕ) → givesPartIn marks 0 ≡ false
@@ -21,17 +21,6 @@ gives-none marks = refl
 pub gives-more : (marks : List ℕ) (i : ℕ) → givesPartIn marks (i + 1) ≡ isPart (markOr 0 marks i) or givesPartIn marks i
 unfolding givesPartIn
 gives-more marks i = ap (givesPartIn marks) (add-one i)
-
--- a part's mark is one before every later index
-pub gives-before :
-    (marks : List ℕ) (i before : ℕ) → i < before → isPart (markOr 0 marks i) ≡ true → givesPartIn marks before ≡ true
-unfolding givesPartIn
-gives-before marks i zero b h = no-way (omega arith)
-gives-before marks i (suc d) b h =
-    by-test
-    (eqb i d)
-    (λ e. or-left (givesPartIn marks d) (ap (λ (j : ℕ). isPart (markOr 0 marks j)) (sym (eqb-true i d e)) ∙ h))
-    (λ e. or-right (isPart (markOr 0 marks d)) (gives-before marks i d (omega (arith, eqb-false i d e)) h))
 
 -- the last index of some marks
 pub top-suc : (d : ℕ) → topOf (suc d) ≡ d
@@ -55,24 +44,6 @@ at-top f other len d e b =
 pub at-none : {A : Type 0} (x other : A) → pick (ltb (topOf 0) markRoom) x other ≡ other
 at-none x other = pick-false x other (le-ltb (topOf 0) markRoom (omega (arith, top-none)))
 
--- a trail that has a last mark
-pub record Topped (t : Trail) : Type 0 where
-  pub rest : ℕ
-  pub long : t .len ≡ suc rest
-  pub inside : rest < markRoom
-
-pub topped : (t : Trail) → hasLast t ≡ true → Topped t
-unfolding hasLast
-topped t h = by-length (t .len) refl (ltb-true (topOf (t .len)) markRoom h)
-  where
-    by-length : (d : ℕ) → t .len ≡ d → topOf (t .len) < markRoom → Topped t
-    by-length zero e b = no-way (omega (arith, ap topOf e, top-none))
-    by-length (suc d) e b = record { rest = d; long = e; inside = omega (arith, ap topOf e, top-suc d) }
-
-pub has-last : (t : Trail) (d : ℕ) → t .len ≡ suc d → d < markRoom → hasLast t ≡ true
-unfolding hasLast
-has-last t d e b = lt-ltb (topOf (t .len)) markRoom (omega (arith, ap topOf e, top-suc d))
-
 -- dropping leaves one mark less
 pub dropped-at : (t : Trail) (d : ℕ) → t .len ≡ suc d → d < markRoom → dropped t ≡ withMark t d 0 d
 unfolding dropped droppedAt
@@ -80,8 +51,3 @@ dropped-at t d e b = at-top (λ (at : ℕ). withMark t at 0 at) t (t .len) d e b
 
 pub dropped-length : (t : Trail) (d : ℕ) → t .len ≡ suc d → d < markRoom → dropped t .len ≡ d
 dropped-length t d e b = ap (λ (x : Trail). x .len) (dropped-at t d e b)
-
-pub drops : (t : Trail) → hasLast t ≡ true → dropped t .len < t .len
-drops t h =
-    let w = topped t h in
-    omega (arith, w .long, dropped-length t (w .rest) (w .long) (w .inside))

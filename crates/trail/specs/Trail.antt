@@ -1,6 +1,6 @@
 -- What the methods of a trail do, a stack of marks in an array.
 -- Assumes nothing.
-use mathlib.Core.Bool.{Bool, true, false}
+use mathlib.Core.Bool.{Bool, false}
 use mathlib.Core.List.{List}
 use Prim.Native.Nat.{ℕ, zero, suc, _+_, _-_}
 use lib.Dec.{ltb}
@@ -15,10 +15,6 @@ markRoom = 600
 -- the index of the last of so many marks, or the array's end where there is none
 unfoldable pub topOf : ℕ → ℕ
 topOf len = pick (ltb 0 len) (len - 1) markRoom
-
--- there is a last mark, within the array
-unfoldable pub hasLast : Trail → Bool
-hasLast t = ltb (topOf (t .len)) markRoom
 
 -- the trail of these marks and this length
 abbrev pub trailWith : List ℕ → ℕ → Trail
@@ -44,18 +40,6 @@ dropped t = droppedAt t (topOf (t .len))
 unfoldable pub markOr : ℕ → List ℕ → ℕ → ℕ
 markOr none marks i = pick (ltb i markRoom) (getD marks i 0) none
 
--- the last mark, or `none`
-unfoldable pub lastMark : Trail → ℕ → ℕ
-lastMark t none = markOr none (t .marks) (topOf (t .len))
-
--- another mark at this index, the last
-unfoldable pub replacedAt : Trail → ℕ → ℕ → Trail
-replacedAt t mark at = pick (ltb at markRoom) (withMark t at mark (t .len)) t
-
--- another last mark
-unfoldable pub replaced : Trail → ℕ → Trail
-replaced t mark = replacedAt t mark (topOf (t .len))
-
 -- a mark is 0 or 1
 abbrev pub isPart : ℕ → Bool
 isPart mark = ltb mark 2
@@ -68,7 +52,3 @@ givesPartIn marks (suc i) = isPart (markOr 0 marks i) or givesPartIn marks i
 -- mark 1 is allowed at this index: it may come first, or some mark before it is 0 or 1
 unfoldable pub oneAt : Bool → List ℕ → ℕ → Bool
 oneAt first marks i = first or givesPartIn marks i
-
--- mark 1 is allowed as the last mark
-unfoldable pub mayBeOne : Bool → Trail → Bool
-mayBeOne first t = oneAt first (t .marks) (topOf (t .len))

@@ -40,11 +40,6 @@ pub array-before :
 unfolding arrayOf
 array-before x τ i h = getD-set-other (arrayOf τ) (length τ) i x 0 (λ e. no-way (omega arith))
 
--- another last mark
-pub array-again : (x y : ℕ) (τ : List ℕ) → set (arrayOf (x ∷ τ)) (length τ) y ≡ arrayOf (y ∷ τ)
-unfolding arrayOf
-array-again x y τ = set-set (arrayOf τ) (length τ) x y
-
 -- with 0 for its last mark the array is that of the marking before it
 pub array-dropped : (x : ℕ) (τ : List ℕ) → set (arrayOf (x ∷ τ)) (length τ) 0 ≡ arrayOf τ
 unfolding arrayOf

@@ -4,7 +4,7 @@ use native.Mathlib.Omega.{arith}
 use Rattle.model.specs.Pattern.{patternOf}
 use Rattle.model.proofs.Theorems.OfList.{lines-of}
 use Rattle.weighing.specs.Cells.{markingIn}
-use Rattle.running.specs.Evaluating.{firstMarks}
+use Rattle.running.specs.Laying.{firstMarks}
 use Rattle.running.proofs.Firsts.{first-valid, holds-given}
 use Rattle.running.proofs.Evaluated.{tables-of, listed-topped}
 use borrow.Author.Needs.{needs}
@@ -29,8 +29,8 @@ crossings-requires c κs = search needs
 wide16-requires : tie.Need-wide16-requires
 wide16-requires c κs = search needs
 
-kept-marks-requires : tie.Need-kept-marks-requires
-kept-marks-requires c κs =
+kept-of-requires : tie.Need-kept-of-requires
+kept-of-requires c κs =
     let s = c .before .before .before .before .before .before .before .before .before .before .before .before in
     let made = tables-of (c .before .before .before .before .before .before .before .before .before .row-starts .result) _ (c .before .before .before .before .before .before .before .before .before .before .before .before .pre .0) (c .before .before .before .before .before .before .before .before .before .row-starts .ensures) (c .before .before .before .before .before .before .before .before .before .before .lines-of .ensures) (c .before .before .before .before .before .before .before .before .line-counts .ensures) (c .before .before .before .before .before .before .line-starts .ensures) (c .before .before .before .before .crossings .ensures .1) (c .wide16 .ensures .0) in
     record {
@@ -57,7 +57,7 @@ evaluate-kept-requires c κs =
       by = _;
       left = _;
       laid = made .tables .laid;
-      holds = c .before .kept-marks .ensures P (s .args .caps) (made .tables) (made .every) (s .pre .1);
+      holds = c .before .kept-of .ensures P (s .args .caps) (made .tables) (made .every) (s .pre .1);
       meets-caps = first-valid (s .args .caps) μ end (made .listed .inside) (s .pre .1);
       topped = listed-topped (firstMarks μ end) (made .listed);
     }
@@ -70,7 +70,7 @@ returns c = λ known takes.
     let μ = markingIn (a .given .now) in
     let end = c .before .before .before .wide16 .result in
     let made = tables-of (c .before .before .before .before .before .before .before .before .before .before .before .before .row-starts .result) _ (c .before .before .before .before .before .before .before .before .before .before .before .before .before .before .before .pre .0) (c .before .before .before .before .before .before .before .before .before .before .before .before .row-starts .ensures) (c .before .before .before .before .before .before .before .before .before .before .before .before .before .lines-of .ensures) (c .before .before .before .before .before .before .before .before .before .before .before .line-counts .ensures) (c .before .before .before .before .before .before .before .before .before .line-starts .ensures) (c .before .before .before .before .before .before .before .crossings .ensures .1) (c .before .before .before .wide16 .ensures .0) in
-    let held = c .before .before .kept-marks .ensures P (a .caps) (made .tables) (made .every) (s .pre .1) in
+    let held = c .before .before .kept-of .ensures P (a .caps) (made .tables) (made .every) (s .pre .1) in
     c .evaluate-kept .ensures (a .n) (a .nonzeros) μ _ _ (made .listed) (made .tables .laid)
     (holds-given (made .listed .inside) μ end (made .every) (λ l b. known l (omega (arith, lines-of (a .m) (a .n) (a .nonzeros) (a .list .now)))) held)
     (s .pre .1)
@@ -86,6 +86,6 @@ evaluate-valid-spec =
     line-starts-requires
     crossings-requires
     wide16-requires
-    kept-marks-requires
+    kept-of-requires
     evaluate-kept-requires
     returns)

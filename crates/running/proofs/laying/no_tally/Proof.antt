@@ -1,8 +1,8 @@
 -- `running::no_tally` meets its contract.
 -- Assumes nothing.
 use Rattle.running.proofs.Beginnings.{zeros-are}
-use Rattle.running.proofs.beginning.no_tally.Statement.{statement}
-use Rattle.running.proofs.beginning.no_tally.Tie as tie
+use Rattle.running.proofs.laying.no_tally.Statement.{statement}
+use Rattle.running.proofs.laying.no_tally.Tie as tie
 
 returns : tie.Need-returns
 returns c = zeros-are 2650

@@ -1,8 +1,8 @@
 -- `running::none_by` meets its contract.
 -- Assumes nothing.
 use Rattle.running.proofs.Beginnings.{zeros-are}
-use Rattle.running.proofs.beginning.none_by.Statement.{statement}
-use Rattle.running.proofs.beginning.none_by.Tie as tie
+use Rattle.running.proofs.laying.none_by.Statement.{statement}
+use Rattle.running.proofs.laying.none_by.Tie as tie
 
 returns : tie.Need-returns
 returns c = zeros-are 2048

@@ -1,4 +1,4 @@
--- `running::evaluating::place_all` meets its contract. The loop's invariant: what is kept is that of the marks of the lines passed.
+-- `running::laying::place_all` meets its contract. The loop's invariant: what is kept is that of the marks of the lines passed.
 -- Assumes nothing.
 use mathlib.Core.Bool.{true}
 use mathlib.Core.List.{[]}
@@ -11,15 +11,15 @@ use Rattle.model.specs.Marking.{marking, valid}
 use Rattle.weighing.specs.Cells.{markingIn}
 use Rattle.crossing.specs.Crossing.{Laid}
 use Rattle.keeping.specs.Kept.{Holds}
-use Rattle.running.specs.Evaluating.{firstMarks}
+use Rattle.running.specs.Laying.{firstMarks}
 use Rattle.running.proofs.Firsts.{first-settable, holds-first, holds-next}
 use Rattle.running.proofs.Evaluated.{given-at}
 use borrow.Author.Needs.{needs}
-use Rattle.running.proofs.evaluating.place_all.Statement.{statement}
-use Rattle.running.proofs.evaluating.place_all.Tie as tie
-use Rattle.running.proofs.evaluating.place_all.Reads as reads
-use Rattle.running.proofs.evaluating.place_all.Lts as lts
-use Rattle.running.proofs.evaluating.place_if.Reads as place-if-reads
+use Rattle.running.proofs.laying.place_all.Statement.{statement}
+use Rattle.running.proofs.laying.place_all.Tie as tie
+use Rattle.running.proofs.laying.place_all.Reads as reads
+use Rattle.running.proofs.laying.place_all.Lts as lts
+use Rattle.running.proofs.laying.place_if.Reads as place-if-reads
 
 abbrev Inv-loop : tie.InvT-loop
 Inv-loop starts cross given marks₀ by₀ left₀ kinds₀ tally₀ sums₀ loads₀ end l₀ marks by left kinds tally sums loads l =

@@ -1,9 +1,9 @@
--- `running::evaluating::place_if` meets its contract.
+-- `running::laying::place_if` meets its contract.
 -- Assumes nothing.
 use native.Mathlib.Omega.{arith}
 use Rattle.running.proofs.Firsts.{holds-set, holds-unset}
-use Rattle.running.proofs.evaluating.place_if.Statement.{statement}
-use Rattle.running.proofs.evaluating.place_if.Tie as tie
+use Rattle.running.proofs.laying.place_if.Statement.{statement}
+use Rattle.running.proofs.laying.place_if.Tie as tie
 
 push-requires : tie.Need-push-requires
 push-requires c κs =

@@ -1,8 +1,8 @@
--- `running::evaluating::kept_marks` meets its contract.
+-- `running::laying::kept_of` meets its contract.
 -- Assumes nothing.
 use borrow.Author.Needs.{needs}
-use Rattle.running.proofs.evaluating.kept_marks.Statement.{statement}
-use Rattle.running.proofs.evaluating.kept_marks.Tie as tie
+use Rattle.running.proofs.laying.kept_of.Statement.{statement}
+use Rattle.running.proofs.laying.kept_of.Tie as tie
 
 none-kept-requires : tie.Need-none-kept-requires
 none-kept-requires c κs = search needs
@@ -23,8 +23,8 @@ returns : tie.Need-returns
 returns c = λ P caps tables every fits.
     c .place-all .ensures P caps (tables .laid) every fits (c .before .before .before .before .before .before .before .before .before .before .before .before .before .before .before .none-kept .ensures P _ _ tables)
 
-pub kept-marks-spec : {M : Type 1} → statement M
-kept-marks-spec =
+pub kept-of-spec : {M : Type 1} → statement M
+kept-of-spec =
     tie.close
     (tie.spec
     none-kept-requires

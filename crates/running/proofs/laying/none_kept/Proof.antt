@@ -1,4 +1,4 @@
--- `running::beginning::none_kept` meets its contract.
+-- `running::laying::none_kept` meets its contract.
 -- Assumes nothing.
 use Prim.Native.Nat.{_≤_}
 use native.Mathlib.Omega.{arith}
@@ -7,8 +7,8 @@ use Rattle.model.specs.Pattern.{lines}
 use Rattle.running.proofs.Empty.{holds-none}
 use Rattle.running.proofs.Beginnings.{blank-made}
 use borrow.Author.Needs.{needs}
-use Rattle.running.proofs.beginning.none_kept.Statement.{statement}
-use Rattle.running.proofs.beginning.none_kept.Tie as tie
+use Rattle.running.proofs.laying.none_kept.Statement.{statement}
+use Rattle.running.proofs.laying.none_kept.Tie as tie
 
 unmarked-lines-requires : tie.Need-unmarked-lines-requires
 unmarked-lines-requires c κs = search needs

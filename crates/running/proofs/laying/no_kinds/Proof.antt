@@ -1,8 +1,8 @@
 -- `running::no_kinds` meets its contract.
 -- Assumes nothing.
 use Rattle.running.proofs.Beginnings.{neutral-are}
-use Rattle.running.proofs.beginning.no_kinds.Statement.{statement}
-use Rattle.running.proofs.beginning.no_kinds.Tie as tie
+use Rattle.running.proofs.laying.no_kinds.Statement.{statement}
+use Rattle.running.proofs.laying.no_kinds.Tie as tie
 
 returns : tie.Need-returns
 returns c = neutral-are

@@ -1,8 +1,8 @@
 -- `running::no_sums` meets its contract.
 -- Assumes nothing.
 use Rattle.running.proofs.Beginnings.{zeros-are}
-use Rattle.running.proofs.beginning.no_sums.Statement.{statement}
-use Rattle.running.proofs.beginning.no_sums.Tie as tie
+use Rattle.running.proofs.laying.no_sums.Statement.{statement}
+use Rattle.running.proofs.laying.no_sums.Tie as tie
 
 returns : tie.Need-returns
 returns c = zeros-are 6
