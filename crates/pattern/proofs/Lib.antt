@@ -1,5 +1,6 @@
 pub mod Within
 pub mod Verdicts
+pub mod Passed
 pub mod Lines
 pub mod Answers
 pub mod Words

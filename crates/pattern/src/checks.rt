@@ -5,6 +5,7 @@ use crate::reading::column_of;
 use crate::reading::long16;
 use crate::reading::row_of;
 use crate::reading::wide16;
+use counting::joining::either_of;
 use model::Caps;
 use model::Verdict;
 use model::Word;
@@ -12,6 +13,8 @@ use model::limits::LINE_LIMIT;
 use model::limits::NONZERO_LIMIT;
 ghost use mathlib.Core.Bool.{not};
 ghost use mathlib.Core.Path.{_≡_};
+ghost use Prim.Native.Nat.{_≤_};
+ghost use Rattle.model.specs.declared.Verdict.the-variants.{Accepted};
 ghost use Rattle.model.specs.Limits.{lineLimit};
 ghost use Rattle.model.specs.Refusal.{refuse, _then_, verdictReply};
 ghost use Rattle.model.specs.Calls.{outside, rises, sizesVerdict, splitNumber, offMatrix, entryVerdict, entriesVerdict, listVerdict, openVerdict, listReplies, openReplies};
@@ -124,11 +127,32 @@ pub fn entry_verdict(m: u64, n: u64, list: &[u8], t: u16) -> Verdict
     and_then(first, order)
 }
 
-// The checks of the first nonzeros, in number order.
-fn entries_verdict(m: u64, n: u64, list: &[u8], nonzeros: u16) -> Verdict
-    ensures { λ r. ⌜ r ≡ entriesVerdict m n (now (list .entry)) nonzeros ⌝ }
+// So many of the first nonzeros lie in the matrix and rise. Each number is read once: of the nonzero before, its cell is kept.
+fn passed_over(m: u64, n: u64, list: &[u8], nonzeros: u16) -> u16
+    requires { ⌜ (m ≤ lineLimit) × (n ≤ lineLimit) ⌝ }
+    ensures { λ r. ⌜ (r ≤ nonzeros) × (entriesVerdict m n (now (list .entry)) r ≡ Accepted) ⌝ }
 {
     let mut t: u16 = 0;
+    let mut before: u64 = 0;
+    while t < nonzeros {
+        let row = long16(row_of(list, t));
+        let column = long16(column_of(list, t));
+        let cell = 65536 * row + column + 1;
+        if either_of(either_of(m <= row, n <= column), cell <= before) {
+            return t;
+        }
+        before = cell;
+        t += 1;
+    }
+    t
+}
+
+// The checks of the first nonzeros, in number order, from the first on that is not passed over.
+fn entries_verdict(m: u64, n: u64, list: &[u8], nonzeros: u16) -> Verdict
+    requires { ⌜ (m ≤ lineLimit) × (n ≤ lineLimit) ⌝ }
+    ensures { λ r. ⌜ r ≡ entriesVerdict m n (now (list .entry)) nonzeros ⌝ }
+{
+    let mut t = passed_over(m, n, list, nonzeros);
     while t < nonzeros {
         let v = entry_verdict(m, n, list, t);
         match v {

@@ -1,6 +1,6 @@
 -- `pattern::entries_verdict` meets its contract. The loop's invariant: the nonzeros passed are accepted. The first refusal is that of every larger count.
 -- Assumes nothing.
-use mathlib.Core.Path.{_≡_, refl, sym, _∙_, ap}
+use mathlib.Core.Path.{_≡_, sym, _∙_, ap}
 use native.Mathlib.Omega.{arith}
 use Prim.Native.Nat.{_≤_, _-_}
 use Rattle.model.specs.declared.Verdict.the-variants.{Accepted}
@@ -18,9 +18,11 @@ Inv-loop m n list nonzeros t₀ t = (t ≤ nonzeros) × (eachVerdict (entryVerdi
 abbrev μ-loop : tie.MeasureT-loop
 μ-loop m n list nonzeros t₀ t = nonzeros - t
 
+passed-over-requires : tie.Need-passed-over-requires Inv-loop μ-loop
+passed-over-requires c κs = search needs
+
 loop-holds : tie.Need-loop-holds Inv-loop μ-loop
-unfolding eachVerdict
-loop-holds c = (search needs, refl)
+loop-holds c = c .passed-over .ensures
 
 entry-verdict-requires : tie.Need-entry-verdict-requires Inv-loop μ-loop
 entry-verdict-requires c κs = search needs
@@ -55,7 +57,7 @@ returns c =
 
 returns-2 : tie.Need-returns-2 Inv-loop μ-loop
 returns-2 c =
-    let a = c .before .before .before .args in
+    let a = c .before .before .before .before .args in
     let e : a .nonzeros ≡ c .before .loop .t = omega arith in
     sym (ap (eachVerdict (entryVerdict (a .m) (a .n) (a .list .now))) e ∙ c .before .loop .inv .1)
 
@@ -65,6 +67,7 @@ entries-verdict-spec =
     (tie.spec
     Inv-loop
     μ-loop
+    passed-over-requires
     loop-holds
     entry-verdict-requires
     enum-told

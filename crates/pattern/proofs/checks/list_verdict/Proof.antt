@@ -5,7 +5,7 @@ use native.Mathlib.Omega.{arith}
 use Rattle.model.specs.declared.Verdict.the-variants.{Accepted}
 use Rattle.model.specs.Calls.{sizesVerdict, listReplies}
 use Rattle.model.proofs.Theorems.Replies.{verdict-told}
-use Rattle.model.proofs.Theorems.Checks.{nonzeros-small}
+use Rattle.model.proofs.Theorems.Checks.{rows-range, columns-range, nonzeros-small}
 use Rattle.pattern.proofs.Verdicts.{accepted-tag, list-sizes, list-short, list-entries}
 use borrow.Author.Needs.{needs}
 use Rattle.pattern.proofs.checks.list_verdict.Statement.{statement}
@@ -35,7 +35,9 @@ cast-entries-verdict : tie.Need-cast-entries-verdict
 cast-entries-verdict c = omega (arith, nonzeros-small _ _ _ (accepted (c .before .before)))
 
 entries-verdict-requires : tie.Need-entries-verdict-requires
-entries-verdict-requires c κs = search needs
+entries-verdict-requires c κs =
+    let h = accepted (c .before .before) in
+    (rows-range _ _ _ h .1, columns-range _ _ _ h .1)
 
 enum-known-sizes : tie.Need-enum-known-sizes
 enum-known-sizes c = search needs
