@@ -125,7 +125,7 @@ fn pattern_at(cases: &[u8], at: usize, last: usize) -> usize {
 
 // Reads the cases and answers each of them in turn.
 fn main() {
-    let mut cases = [0u8; 8192];
+    let mut cases = [0u8; 16384];
     let len = io::read_full(STDIN_FILENO, &mut cases);
     let mut last: usize = 0;
     let mut at: usize = 0;
