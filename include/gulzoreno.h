@@ -30,7 +30,7 @@ extern "C" {
 /* The bytes of its stack that a call takes at most. A thread that makes calls should have a stack of these and a fifth more. It
  * is where a bound's matching is searched that the most is taken: from a row to a column and on to the next row, one call within
  * another, through 299 rows at most. */
-#define GULZORENO_STACK 139264
+#define GULZORENO_STACK 147456
 
 /* The answers other than a refusal. */
 #define GULZORENO_SPLIT 0      /* parts and figures are written */
