@@ -38,7 +38,7 @@ patternIn s m list = patternOf m (s .n) (s .nonzeros) list
 abbrev pub rulesIn : Search → ℕ → List ℕ → Rules
 rulesIn s m list = rulesOf (patternIn s m list) (capsIn s)
 
--- a search that is not refused, with the table of its rows at hand, at most k marks for a full trail, and room for the tries to be made
+-- a search that is not refused, with the table of its rows at hand, so many marks for a full trail, no more than the pattern's own, and room for the tries to be made
 pub record Startable (s : Search) (m : ℕ) (list rows : List ℕ) (k budget : ℕ) : Type 0 where
   pub room : s .tries + budget ≤ triesLimit + budgetLimit
   pub held : s ≡ searchOf (recordOf s)
