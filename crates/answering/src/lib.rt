@@ -1,10 +1,12 @@
 // The program's answer: from the bytes of its input to the bytes that it prints.
+#![tactic(auto)]
+
 pub mod first_line;
 pub mod printing;
 pub mod splitting;
 
 // The first line: as it must be or not, E and B, and where the text starts.
-#[derive(Drop)]
+#[derive(Clone, Copy)]
 pub struct Command {
     pub fine: bool,
     pub percent: u32,
@@ -19,7 +21,7 @@ pub const INPUT_ROOM: usize = 65601;
 pub const OUTPUT_ROOM: usize = 65536;
 
 // What the program prints: the first len bytes of its output.
-#[derive(Drop)]
+#[derive(Clone, Copy)]
 pub struct Printed {
     pub bytes: [u8; OUTPUT_ROOM],
     pub len: usize,

@@ -1,6 +1,7 @@
 // Prints what an evaluation by the functions that a run judges by says of markings of several patterns, in the words of the list of expected
 // bounds, with looks. Its input has the cases.
-use libc::STDIN_FILENO;
+#![tactic(auto)]
+
 use marking::marks::unmarked_lines;
 use model::Caps;
 use model::limits::LIST_ROOM;
@@ -38,7 +39,7 @@ fn say_all(e: Evaluation) {
 }
 
 // A pattern and its caps as a case gives them, and the place of the next case.
-#[derive(Drop)]
+#[derive(Clone, Copy)]
 struct Given {
     m: u64,
     n: u64,
@@ -120,7 +121,7 @@ fn pattern_at(cases: &[u8], at: usize, last: usize) -> usize {
 // Reads the cases and answers each of them in turn.
 fn main() {
     let mut cases = [0u8; 16384];
-    let len = io::read_full(STDIN_FILENO, &mut cases);
+    let len = io::read_full(0, &mut cases);
     let mut last: usize = 0;
     let mut at: usize = 0;
     while at < len {

@@ -1,4 +1,6 @@
 // Tables of a pattern: the crossing lines of each line, and the line at each place of the order.
+#![tactic(auto)]
+
 pub mod laying;
 pub mod ordering;
 pub mod starting;

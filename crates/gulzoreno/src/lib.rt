@@ -1,4 +1,6 @@
 // The splitter for a host in C: one function with numbers and byte slices. It opens, runs once and shows.
+#![tactic(auto)]
+
 ghost use Rattle.std.specs.Prelude.{◌≡◌, ◌≤◌};
 ghost use Rattle.model.specs.Limits.{nonzero_limit};
 ghost use Rattle.model.specs.Split.{caps_of};
@@ -68,8 +70,7 @@ fn run_and_show(
 
 // Splits a pattern under cap 0 and cap 1 within a budget of tries. Answers 0 with the parts and the figures (volume, tries, floor, complete)
 // written, or 255 for "none yet", or a refusal as number + 256 × place; with the last two nothing is written.
-#[unsafe(no_mangle)]
-pub extern "C" fn gulzoreno_bipartition(
+pub fn gulzoreno_bipartition(
     m: u64,
     n: u64,
     nonzeros: u64,

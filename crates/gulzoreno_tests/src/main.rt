@@ -1,9 +1,10 @@
 // Calls the C function on the cases of the input, and prints its answer and every byte of both output slices. Before each call every byte
 // of them is 7.
+#![tactic(auto)]
+
 mod calling;
 mod lending;
 
-use libc::STDIN_FILENO;
 use pattern::reading::byte_at;
 use testing::Kind;
 use testing::cases::field_at;
@@ -20,7 +21,7 @@ fn case_at(cases: &[u8], at: usize) -> usize {
 // Reads the cases, and answers each of them in turn.
 fn main() {
     let mut cases = [0u8; 8192];
-    let len = io::read_full(STDIN_FILENO, &mut cases);
+    let len = io::read_full(0, &mut cases);
     let mut at: usize = 0;
     while at < len {
         let next = case_at(&cases, at);

@@ -24,7 +24,7 @@ kind_number Untouched = 2
 
 -- the kind of a line, from its mark and how many of its crossing lines are marked 0 and 1
 unfoldable pub kind_of : ℕ → ℕ → ℕ → ℕ
-kind_of mark zero one = kind_number (condition_for mark (ltb 0 zero) (ltb 0 one))
+kind_of mark zeros ones = kind_number (condition_for mark (ltb 0 zeros) (ltb 0 ones))
 
 -- lines of kind p with so many untaken nonzeros
 unfoldable pub tally_of : Pattern → (ℕ → ℕ) → (ℕ → ℕ) → ℕ → ℕ → ℕ

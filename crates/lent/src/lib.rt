@@ -1,4 +1,6 @@
 // A search that is lent by `&mut`: a run, and a run of one try.
+#![tactic(auto)]
+
 ghost use Rattle.std.specs.Prelude.{◌≡◌};
 ghost use Rattle.model.specs.Calls.{run_call, run_reply, run_replies};
 

@@ -5,7 +5,7 @@ ghost use Rattle.model.specs.Calls.{run_call};
 use model::{Ran, Search};
 
 // What a run and a try after it answer, and the search after each.
-#[derive(Drop)]
+#[derive(Clone, Copy)]
 pub struct Lent {
     pub ran: Ran,
     pub tried: Ran,

@@ -1,17 +1,18 @@
 // Runs and tries on a search that is lent, each next to the same run by value, and prints whether answers and searches are the same. Prints
 // volumes and loads of splits too, and their refusals. Its input has the cases.
+#![tactic(auto)]
+
 mod lending;
 mod measuring;
 mod stepping;
 
-use libc::STDIN_FILENO;
 use model::Search;
 use pattern::reading::byte_at;
 use testing::Kind;
 use testing::cases::field_at;
 
 // The search that the cases go on with, and the place of the next case.
-#[derive(Drop)]
+#[derive(Clone, Copy)]
 pub struct Turn {
     pub search: Search,
     pub next: usize,
@@ -49,7 +50,7 @@ fn case_at(cases: &[u8], at: usize, search: Search) -> Turn {
 // Reads the cases and answers each of them in turn.
 fn main() {
     let mut cases = [0u8; 4096];
-    let len = io::read_full(STDIN_FILENO, &mut cases);
+    let len = io::read_full(0, &mut cases);
     let mut search = stepping::fresh();
     let mut at: usize = 0;
     while at < len {

@@ -1,6 +1,7 @@
 // Writes the split of a text anew with the largest figures, as often as the input says, and prints it once: the writer's time is measured by
 // this program. The input is a line with a number of seven digits, and the text.
-use libc::{STDIN_FILENO, STDOUT_FILENO};
+#![tactic(auto)]
+
 use model::limits::{LIST_ROOM, PART_ROOM};
 use testing::cases::number_at;
 use testing::laying::first;
@@ -58,7 +59,7 @@ fn print_written(times: u64, text: &[u8]) {
             integer: _,
         } => {
             let len = write_often(times, m, n, nonzeros, &list, &parts, &mut out);
-            io::write_all(STDOUT_FILENO, first(&out, len));
+            io::write_all(1, first(&out, len));
         }
         ReadAnswer::Refused(_, _) => {}
     }
@@ -68,8 +69,8 @@ fn print_written(times: u64, text: &[u8]) {
 fn main() {
     let mut line = [0u8; 8];
     let mut text = [0u8; 65536];
-    io::read_full(STDIN_FILENO, &mut line);
-    let len = io::read_full(STDIN_FILENO, &mut text);
+    io::read_full(0, &mut line);
+    let len = io::read_full(0, &mut text);
     let times = number_at(&line, 0);
     print_written(times.value, first(&text, len));
 }

@@ -11,14 +11,14 @@ use model::limits::{LINE_ROOM, SIDE_ENDS, SIDE_ROOM};
 use pattern::reading::{byte_at, column_of, less, long16, wide, wide16, word_at};
 
 // What a visit answers: whether it ended at an unmatched column, and its looks.
-#[derive(Drop)]
+#[derive(Clone, Copy)]
 pub struct Visit {
     pub found: bool,
     pub looks: u64,
 }
 
 // The size of a matching, and the looks that it took to find it.
-#[derive(Drop)]
+#[derive(Clone, Copy)]
 pub struct Matching {
     pub size: u64,
     pub looks: u64,

@@ -1,5 +1,7 @@
 // The trail in two levels: the latest marks are digits of one number, and full words of 32 marks each lie below it. Only a method that fills or opens a
 // word indexes the array, so that the others cost nothing though they hand the trail back by value.
+#![tactic(auto)]
+
 ghost use Rattle.std.specs.Prelude.{true, List, [], ◌∷◌, ◌≡◌, ℕ, ◌+◌, ◌-◌, ◌%◌, ◌≤◌, ◌<◌, length};
 ghost use Rattle.counting.specs.Tests.{bit};
 ghost use Rattle.trail.specs.Trail.{mark_room, is_part};
@@ -24,7 +26,7 @@ const TOP_ROOM: u64 = 4611686018427387904;
 
 // A marking. The latest 1 to 32 marks are base-4 digits of `top`, the last mark the lowest; the marks before them lie in words of 32. `len` is the number of
 // marks, and `parts` the number of marks 0 or 1 among all but the last.
-#[derive(Drop)]
+#[derive(Clone, Copy)]
 pub struct PackedTrail {
     pub words: [u64; WORD_ROOM],
     pub top: u64,

@@ -1,4 +1,6 @@
 // The list of nonzeros: reading it, its checks, the cap from a percentage, and volume and load of a split.
+#![tactic(auto)]
+
 use model::Word;
 
 pub mod cap;
@@ -10,7 +12,7 @@ pub mod room;
 pub mod splits;
 
 // A volume or a load, or a refusal.
-#[derive(Drop)]
+#[derive(Clone, Copy)]
 pub enum Measured {
     Value(u64),
     Refused(Word, u64),

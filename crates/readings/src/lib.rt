@@ -1,18 +1,20 @@
 // A text along with the offset of its next unread byte, read from line to line.
+#![tactic(auto)]
+
 ghost use Rattle.std.specs.Prelude.{◌≡◌, length};
 ghost use Rattle.scanning.specs.Lines.{line_next, size_line_at};
 
 use scanning::lines::{is_skipped, line_next};
 
 // A text, and the offset of its next unread byte.
-#[derive(Drop)]
+#[derive(Clone, Copy)]
 pub struct Reading<'a> {
     pub text: &'a [u8],
     pub at: usize,
 }
 
 // The size line of a text and the line after it, each by the offset of its first byte.
-#[derive(Drop)]
+#[derive(Clone, Copy)]
 pub struct SizeLine {
     pub at: usize,
     pub next: usize,

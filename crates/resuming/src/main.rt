@@ -2,12 +2,13 @@
 // this program. The input is a pattern, a line with rows, columns, nonzeros, cap 0, cap 1 and cells, and a line with five numbers: tries, rounds,
 // runs, budget and showings. The tries are made first, in one run; then each round makes so many runs of that budget from the search after them;
 // and then the search is shown.
+#![tactic(auto)]
+
 mod order;
 mod repeating;
 
 use crate::order::{Order, order_of};
 use crate::repeating::{Showings, rounds_from, run_once, show_often};
-use libc::STDIN_FILENO;
 use model::limits::LIST_ROOM;
 use model::{Search, ShowAnswer, Verdict};
 use testing::laying::first;
@@ -67,7 +68,7 @@ fn answer(order: Order, list: &[u8]) {
 fn main() {
     let mut input = [0u8; 65536];
     let mut list = [0u8; LIST_ROOM];
-    let len = io::read_full(STDIN_FILENO, &mut input);
+    let len = io::read_full(0, &mut input);
     let order = order_of(first(&input, len), &mut list);
     answer(order, first(&list, order.len));
 }

@@ -3,7 +3,7 @@ use testing::cases::{list_at, number_at};
 
 // A pattern's numbers and caps, and how many bytes its list has; the tries that are made first; how many rounds there are, the runs of a round
 // and the budget of each; and how many showings.
-#[derive(Drop)]
+#[derive(Clone, Copy)]
 pub(crate) struct Order {
     pub m: u64,
     pub n: u64,

@@ -4,7 +4,7 @@ use model::limits::PART_ROOM;
 use model::{Search, ShowAnswer};
 
 // What the last of some showings answered, and the sum of what all of them did, of which six digits are kept.
-#[derive(Drop)]
+#[derive(Clone, Copy)]
 pub(crate) struct Showings {
     pub last: ShowAnswer,
     pub sum: u64,

@@ -21,7 +21,7 @@ use model::limits::{LINE_ROOM, SIDE_ENDS};
 use pattern::reading::{less, long16, wide, wide16, wide32};
 
 // The least of a count and the bound of a marking, and the looks of its matching.
-#[derive(Drop)]
+#[derive(Clone, Copy)]
 pub(crate) struct Judged {
     pub least: u64,
     pub looks: u64,

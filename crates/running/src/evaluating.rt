@@ -33,7 +33,7 @@ const TOP: u16 = 300;
 
 // What an evaluation says of a marking: whether it is valid, D0 and D1, and for a valid one L1 to L4, the least of the bound and a count, and
 // the looks.
-#[derive(Drop)]
+#[derive(Clone, Copy)]
 pub struct Evaluation {
     pub valid: bool,
     pub zero: u16,

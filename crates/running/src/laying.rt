@@ -54,7 +54,7 @@ fn no_loads() -> [u16; LOAD_ROOM]
 }
 
 // What is kept of a marking.
-#[derive(Drop)]
+#[derive(Clone, Copy)]
 pub(crate) struct Kept {
     pub marks: [u8; LINE_ROOM],
     pub by: [u16; BY_ROOM],

@@ -1,4 +1,6 @@
 // A run: its list and its state checked, then so many tries of the walk, on counts that are kept while the trail grows and shrinks.
+#![tactic(auto)]
+
 ghost use Rattle.std.specs.Prelude.{◌≡◌};
 ghost use Rattle.model.specs.declared.Verdict.TheVariants.{Accepted};
 ghost use Rattle.model.specs.Pattern.{pattern_of};

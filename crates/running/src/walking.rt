@@ -19,7 +19,7 @@ use model::limits::{LINE_ROOM, SIDE_ENDS};
 use pattern::reading::wide16;
 
 // Whether a trail stands, the least of the best count and its bound, and the looks of its try.
-#[derive(Drop)]
+#[derive(Clone, Copy)]
 pub(crate) struct Tried {
     pub stands: bool,
     pub least: u64,

@@ -1,4 +1,5 @@
 // Matrix Market texts below the level of what a line means: byte classes, lines, words, numbers, and checks as values.
+#![tactic(auto)]
 
 pub mod classes;
 pub mod lines;
@@ -7,7 +8,7 @@ pub mod tests;
 pub mod words;
 
 // The class of a byte.
-#[derive(Drop)]
+#[derive(Clone, Copy)]
 pub enum Class {
     Digit,
     Blank,
@@ -18,7 +19,7 @@ pub enum Class {
 }
 
 // A stretch of bytes: up to the line's end, of blanks, of anything but blanks, or of digits.
-#[derive(Drop)]
+#[derive(Clone, Copy)]
 pub enum Stretch {
     Line,
     Blanks,
@@ -27,7 +28,7 @@ pub enum Stretch {
 }
 
 // The field of a text: what its entries have beside row and column, nothing, a part or a real value.
-#[derive(Drop)]
+#[derive(Clone, Copy)]
 pub enum Field {
     Pattern,
     Integer,
@@ -35,14 +36,14 @@ pub enum Field {
 }
 
 // The next word of a line: where it starts and where it stops.
-#[derive(Drop)]
+#[derive(Clone, Copy)]
 pub struct Span {
     pub from: usize,
     pub stop: usize,
 }
 
 // The next word of a line as a number, and where it stops.
-#[derive(Drop)]
+#[derive(Clone, Copy)]
 pub struct Number {
     pub fine: bool,
     pub value: u32,
@@ -50,7 +51,7 @@ pub struct Number {
 }
 
 // The numbers of a line; where it has no third number, that is 1.
-#[derive(Drop)]
+#[derive(Clone, Copy)]
 pub struct Numbers {
     pub fine: bool,
     pub first: u32,

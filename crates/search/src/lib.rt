@@ -1,4 +1,6 @@
 // The search: opening, run and showing.
+#![tactic(auto)]
+
 ghost use Rattle.std.specs.Prelude.{◌≡◌};
 ghost use Rattle.model.specs.Refusal.{verdict_reply};
 ghost use Rattle.model.specs.Split.{caps_of};

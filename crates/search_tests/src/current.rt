@@ -6,7 +6,7 @@ use testing::cases::{list_at, number_at};
 use testing::laying::first;
 
 // A pattern, its caps and where its cells stand among the cases; what its opening answered, and its search; and the place of the next field.
-#[derive(Drop)]
+#[derive(Clone, Copy)]
 pub struct Current {
     pub m: u64,
     pub n: u64,

@@ -1,4 +1,6 @@
 // Prints what openings, runs and showings answer to the cases of its input, in the words of the list of expected walks.
+#![tactic(auto)]
+
 mod calls;
 mod current;
 mod damaged;
@@ -9,7 +11,6 @@ mod shown;
 mod walks;
 
 use crate::current::{Current, fresh_at, go_to};
-use libc::STDIN_FILENO;
 use pattern::reading::byte_at;
 use testing::Kind;
 use testing::cases::field_at;
@@ -51,7 +52,7 @@ fn case_at(cases: &[u8], current: Current) -> Current {
 // Reads the cases and answers each of them in turn.
 fn main() {
     let mut cases = [0u8; 65536];
-    let len = io::read_full(STDIN_FILENO, &mut cases);
+    let len = io::read_full(0, &mut cases);
     let mut current = go_to(fresh_at(&cases, 0), 0);
     let mut at: usize = 0;
     while at < len {

@@ -1,4 +1,6 @@
 // Writing the split that a search shows: one pass over the nonzeros, in number order.
+#![tactic(auto)]
+
 ghost use Rattle.std.specs.Prelude.{not, ◌≡◌, ◌+◌, ltb, set};
 ghost use Rattle.counting.specs.Tests.{◌and◌, ◌or◌, bit};
 ghost use Rattle.model.specs.declared.Part.TheVariants.{Zero};

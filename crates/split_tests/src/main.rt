@@ -1,10 +1,11 @@
 // Prints what the program answers to many inputs, byte by byte, what it leaves in outputs that are too short, and what is read back from its
 // longest answers. Its own input has the cases.
+#![tactic(auto)]
+
 mod asking;
 mod largest;
 mod outputs;
 
-use libc::STDIN_FILENO;
 use pattern::reading::byte_at;
 use testing::Kind;
 use testing::cases::field_at;
@@ -24,7 +25,7 @@ fn case_at(cases: &[u8], at: usize) -> usize {
 // Reads the cases and answers each of them in turn.
 fn main() {
     let mut cases = [0u8; 65536];
-    let len = io::read_full(STDIN_FILENO, &mut cases);
+    let len = io::read_full(0, &mut cases);
     let mut at: usize = 0;
     while at < len {
         let next = case_at(&cases, at);

@@ -1,5 +1,4 @@
 // The figures of a split, printed.
-use libc::STDOUT_FILENO;
 use pattern::reading::byte_at;
 use scanning::lines::line_next;
 
@@ -7,7 +6,7 @@ use scanning::lines::line_next;
 fn print_between(page: &[u8], from: usize, to: usize) {
     if from <= to {
         if to <= page.len() {
-            io::write_all(STDOUT_FILENO, &page[from..to]);
+            io::write_all(1, &page[from..to]);
         }
     }
 }

@@ -2,11 +2,12 @@
 use crate::figures::print_figures;
 use crate::files::{PAGE_ROOM, read_named};
 use answering::OUTPUT_ROOM;
-use libc::STDOUT_FILENO;
 use model::limits::{BUDGET_LIMIT, LIST_ROOM, PART_ROOM};
 use model::{CapAnswer, Search, ShowAnswer, Verdict};
 use pattern::cap::cap_from_percent;
 use state::holding::complete_number;
+use std::io::Result;
+use std::rt::Files;
 use texts::ReadAnswer;
 use texts::read::read;
 use writing::Figures;
@@ -126,12 +127,13 @@ fn put_start(page: &[u8], len: usize, runs: u64, out: &mut [u8]) {
 }
 
 // Prints the name of a file and the figures of its split after at most so many runs.
-pub(crate) fn print_file(name: &[u8], runs: u64) {
+pub(crate) fn print_file(rt: &impl Files, name: &str, runs: u64) -> Result<()> {
     let mut page = [0u8; PAGE_ROOM];
     let mut out = [0u8; OUTPUT_ROOM];
-    let len = read_named(name, &mut page, 0);
+    let len = read_named(rt, name, &mut page, 0)?;
     put_start(&page, len, runs, &mut out);
-    io::write_all(STDOUT_FILENO, name);
-    io::write_all(STDOUT_FILENO, b": ");
+    io::write_all(1, name.as_bytes());
+    io::write_all(1, b": ");
     print_figures(&out);
+    Ok(())
 }

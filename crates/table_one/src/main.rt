@@ -4,6 +4,8 @@
 // divorce, cage5, mesh1e1 and chesapeake are read off pictures of the patterns; steam3's stored zeros are restored by filling its 4 by 4 blocks, which is an inference.
 // Then the symmetric form of each symmetric pattern: what it gives is held byte by byte against what the general form gives.
 // mesh1e1 has a form with values too, which are made up.
+#![tactic(auto)]
+
 mod figures;
 mod files;
 mod finishing;
@@ -19,20 +21,21 @@ const TO_THE_END: u64 = 400;
 const SOME: u64 = 10;
 
 // Every file in the order of the table, then the forms of the symmetric ones.
-fn main() {
-    print_file(b"karate.mtx", TO_THE_END);
-    print_file(b"divorce.mtx", TO_THE_END);
-    print_file(b"cage5.mtx", TO_THE_END);
-    print_file(b"Sandi_authors.mtx", TO_THE_END);
-    print_file(b"mesh1e1.mtx", SOME);
-    print_file(b"impcol_b.mtx", SOME);
-    print_file(b"chesapeake.mtx", TO_THE_END);
-    print_file(b"steam3.mtx", SOME);
-    print_forms(b"karate.mtx", b"karate_symmetric.mtx");
-    print_forms(b"cage5.mtx", b"cage5_symmetric.mtx");
-    print_forms(b"Sandi_authors.mtx", b"Sandi_authors_symmetric.mtx");
-    print_forms(b"mesh1e1.mtx", b"mesh1e1_symmetric.mtx");
-    print_forms(b"mesh1e1.mtx", b"mesh1e1_real.mtx");
-    print_forms(b"chesapeake.mtx", b"chesapeake_symmetric.mtx");
-    print_forms(b"steam3.mtx", b"steam3_symmetric.mtx");
+fn main(rt: HostRuntime) -> std::io::Result<()> {
+    print_file(&rt, "karate.mtx", TO_THE_END)?;
+    print_file(&rt, "divorce.mtx", TO_THE_END)?;
+    print_file(&rt, "cage5.mtx", TO_THE_END)?;
+    print_file(&rt, "Sandi_authors.mtx", TO_THE_END)?;
+    print_file(&rt, "mesh1e1.mtx", SOME)?;
+    print_file(&rt, "impcol_b.mtx", SOME)?;
+    print_file(&rt, "chesapeake.mtx", TO_THE_END)?;
+    print_file(&rt, "steam3.mtx", SOME)?;
+    print_forms(&rt, "karate.mtx", "karate_symmetric.mtx")?;
+    print_forms(&rt, "cage5.mtx", "cage5_symmetric.mtx")?;
+    print_forms(&rt, "Sandi_authors.mtx", "Sandi_authors_symmetric.mtx")?;
+    print_forms(&rt, "mesh1e1.mtx", "mesh1e1_symmetric.mtx")?;
+    print_forms(&rt, "mesh1e1.mtx", "mesh1e1_real.mtx")?;
+    print_forms(&rt, "chesapeake.mtx", "chesapeake_symmetric.mtx")?;
+    print_forms(&rt, "steam3.mtx", "steam3_symmetric.mtx")?;
+    Ok(())
 }

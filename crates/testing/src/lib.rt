@@ -1,4 +1,6 @@
 // What the test programs have in common: cases read from their input, printing, texts laid out in a page, and bytes compared.
+#![tactic(auto)]
+
 pub mod cases;
 pub mod comparing;
 pub mod laying;
@@ -6,7 +8,7 @@ pub mod saying;
 
 // How the bytes of a field are written: as letters, or as numbers with one letter between two of them, which are bytes, or row and column
 // numbers of two bytes each, lowest first.
-#[derive(Drop)]
+#[derive(Clone, Copy)]
 pub enum Kind {
     Text,
     Numbers,
@@ -14,7 +16,7 @@ pub enum Kind {
 }
 
 // What a field gives, a number or how many bytes, and where the next field starts.
-#[derive(Drop)]
+#[derive(Clone, Copy)]
 pub struct Field {
     pub value: u64,
     pub next: usize,

@@ -1,4 +1,6 @@
 // Reading a Matrix Market text into a list of nonzeros.
+#![tactic(auto)]
+
 use model::{Verdict, Word};
 use scanning::Field;
 
@@ -8,14 +10,14 @@ pub mod head;
 pub mod read;
 
 // The field that a word of the first line names, if it names one.
-#[derive(Drop)]
+#[derive(Clone, Copy)]
 pub struct NamedField {
     pub named: bool,
     pub field: Field,
 }
 
 // The first line: as it must be or not, F, and symmetric or general.
-#[derive(Drop)]
+#[derive(Clone, Copy)]
 pub struct Banner {
     pub fine: bool,
     pub field: Field,
@@ -23,7 +25,7 @@ pub struct Banner {
 }
 
 // What stands before the entries: the first line, where the size line is, what it holds, and where the next line is.
-#[derive(Drop)]
+#[derive(Clone, Copy)]
 pub struct Header {
     pub fine: bool,
     pub field: Field,
@@ -37,14 +39,14 @@ pub struct Header {
 }
 
 // How far the entries are noted: the last line's verdict, and the number of entries before the next line.
-#[derive(Drop)]
+#[derive(Clone, Copy)]
 pub struct Progress {
     pub verdict: Verdict,
     pub count: usize,
 }
 
 // A reading's answer: sizes, and whether there are parts, or a refusal.
-#[derive(Drop)]
+#[derive(Clone, Copy)]
 pub enum ReadAnswer {
     Read {
         m: u64,

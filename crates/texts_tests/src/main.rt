@@ -1,11 +1,12 @@
 // Prints what reading and writing make of many texts, in the words of the list of expected answers. Its input has the cases.
+#![tactic(auto)]
+
 mod largest;
 mod opened;
 mod reading;
 mod saying;
 mod writings;
 
-use libc::STDIN_FILENO;
 use pattern::reading::byte_at;
 use testing::Kind;
 use testing::cases::field_at;
@@ -30,7 +31,7 @@ fn case_at(cases: &[u8], at: usize) -> usize {
 // Reads the cases and answers each of them in turn.
 fn main() {
     let mut cases = [0u8; 65536];
-    let len = io::read_full(STDIN_FILENO, &mut cases);
+    let len = io::read_full(0, &mut cases);
     let mut at: usize = 0;
     while at < len {
         let next = case_at(&cases, at);

@@ -9,7 +9,7 @@ use writing::write::write;
 use writing::{Figures, WriteAnswer};
 
 // A split as a case gives it: the first bytes of list and parts are lent. The next field starts at `next`.
-#[derive(Drop)]
+#[derive(Clone, Copy)]
 struct Split {
     m: u64,
     n: u64,

@@ -1,4 +1,6 @@
 // A marking in the order of lines, as a stack of marks, one byte each: as a search holds it. Its methods append and drop marks and hand it back.
+#![tactic(auto)]
+
 ghost use Rattle.std.specs.Prelude.{◌≡◌};
 ghost use Rattle.trail.specs.Trail.{top_of, appended, dropped, mark_or, is_part};
 
@@ -6,7 +8,7 @@ ghost use Rattle.trail.specs.Trail.{top_of, appended, dropped, mark_or, is_part}
 pub const MARK_ROOM: usize = 600;
 
 // A marking: the mark of the line at place i is marks[i], for each i below len. Methods keep 0 in the marks past its length.
-#[derive(Drop)]
+#[derive(Clone, Copy)]
 pub struct Trail {
     pub marks: [u8; MARK_ROOM],
     pub len: usize,

@@ -1,3 +1,5 @@
 // What a marking takes, and the condition of a line.
+#![tactic(auto)]
+
 pub mod leaning;
 pub mod taking;

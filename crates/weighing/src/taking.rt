@@ -11,7 +11,7 @@ use model::limits::LINE_ROOM;
 use pattern::reading::{column_of, row_of, wide16};
 
 // D0 and D1, and whether some nonzero is taken by both parts.
-#[derive(Drop)]
+#[derive(Clone, Copy)]
 pub struct Taken {
     pub zero: u16,
     pub one: u16,

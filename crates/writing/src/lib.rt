@@ -1,11 +1,13 @@
 // Writing a split as a Matrix Market text.
+#![tactic(auto)]
+
 use model::Word;
 
 pub mod checks;
 pub mod write;
 
 // The figures of the comment: rest is 0 for caps given directly, and complete is 0 for "stopped" and anything else for "complete".
-#[derive(Drop)]
+#[derive(Clone, Copy)]
 pub struct Figures {
     pub volume: u64,
     pub cap0: u64,
@@ -17,7 +19,7 @@ pub struct Figures {
 }
 
 // A writing's answer: the text's length, or a refusal.
-#[derive(Drop)]
+#[derive(Clone, Copy)]
 pub enum WriteAnswer {
     Written(u64),
     Refused(Word, u64),

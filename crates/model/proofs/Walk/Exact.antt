@@ -59,6 +59,7 @@ pub record Exact (R : Rules) (r : Record) : Type 0 where
 -- with nothing open, what is settled has at least the count of cut lines
 settled_closed : {count : ℕ} {ν : List ℕ} → Settled count [] ν → count ≤ cuts ν
 settled_closed (inl h) = h
+settled_closed {count = count} {ν = ν} (inr x') = elim x' [ ]
 
 -- a complete record that covers every full marking is exact
 covers_exact : {R : Rules} (r : Record) → Sound R → Covers R r → r.complete ≡ true → Exact R r

@@ -29,7 +29,7 @@ const POWERS: [u64; 20] = [
 ];
 
 // A digit's byte, and what is left of the number.
-#[derive(Drop)]
+#[derive(Clone, Copy)]
 struct Taken {
     byte: u8,
     left: u64,
