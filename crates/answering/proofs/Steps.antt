@@ -11,7 +11,6 @@ use lib.ListN.{length, get_or, take, drop, get_or-eq_default}
 use lib.Seq.{sets}
 use borrow.Author.Tests.{eqb-true, ltb-true, ltb-false}
 use borrow.Author.Rules.{part_to_end}
-use types.Run.{OneOf}
 use denote.Enum.Declared.{tag_of, declared}
 use Rattle.counting.proofs.Joined.{no_way, by_test, and_right, pick_true, pick-false}
 use Rattle.model.specs.declared.Word.{Word}
@@ -127,15 +126,15 @@ module _ (s : Search) (rest m n nonzeros : ℕ) (list parts : List ℕ) (a : Sho
   search_shown = rw (called, given)
 
   line_so :
-      (out : List ℕ) (x : ShowAnswer) → OneOf (1 ∷ 2 ∷ []) (tag_of (declared show-enum) x) →
+      (out : List ℕ) (x : ShowAnswer) → ((v f : ℕ) → x ≡ show-answer.Split v f → ⊥) →
       line_text x s.cap0 s.cap1 rest s.tries ≡ printed_as (after_showing rest m n nonzeros list x s parts) out
   unfolding line_text after_showing printed_as
-  line_so out (show-answer.Split volume floor) h = ⊎_elim (λ e. no_way (omega arith)) (λ e. no_way (omega arith)) h
+  line_so out (show-answer.Split volume floor) h = absurd (h volume floor refl)
   line_so out (show-answer.NoneYet floor) h = refl
   line_so out (show-answer.Refused word place) h = refl
 
   pub shown_line :
-      {out new : List ℕ} {r : ℕ} → OneOf (1 ∷ 2 ∷ []) (tag_of (declared show-enum) a) → Puts out 0 (line_text a s.cap0 s.cap1 rest s.tries) new r →
+      {out new : List ℕ} {r : ℕ} → ((v f : ℕ) → a ≡ show-answer.Split v f → ⊥) → Puts out 0 (line_text a s.cap0 s.cap1 rest s.tries) new r →
       Puts out 0 (printed_as (search_answer rest m n nonzeros list s) out) new r
   shown_line {out} h p = prints_answer search_shown (puts_as (line_so out a h) p)
 

@@ -2,7 +2,7 @@
 -- Assumes nothing.
 use mathlib.Core.Bool.{Bool, true, false}
 use mathlib.Core.List.{List, [], ◌∷◌}
-use mathlib.Core.Logic.{◌⊎◌, ⊎_elim}
+use mathlib.Core.Logic.{inl, inr, ◌⊎◌, ⊎_elim}
 use mathlib.Core.Path.{◌≡◌, refl, sym, ◌∙◌}
 use Prim.Native.Nat.{ℕ, zero, suc, ◌≤◌, ◌<◌, ◌+◌, ◌-◌, ◌/◌, ◌%◌}
 use native.Mathlib.Numerals.{add-one}
@@ -62,16 +62,16 @@ given_letter Numbers cases at h = no_way (omega arith)
 given_letter Lines cases at h = no_way (omega arith)
 
 -- what is given by a number
-pub given-number : (kind : Kind) (cases : List ℕ) (at : ℕ) → (tag_of (declared enum) kind ≡ 1) ⊎ (tag_of (declared enum) kind ≡ 2) → number_given cases at ≡ given cases at kind
-given-number Text cases at h = no_way (⊎_elim (λ e. omega arith) (λ e. omega arith) h)
+pub given-number : (kind : Kind) (cases : List ℕ) (at : ℕ) → (kind ≡ Numbers) ⊎ (kind ≡ Lines) → number_given cases at ≡ given cases at kind
+given-number Text cases at h = elim h [ inl e ↦ cc | inr e ↦ cc ]
 given-number Numbers cases at h = refl
 given-number Lines cases at h = refl
 
 -- it is one byte
-pub one_byte : (kind : Kind) (value : ℕ) → (tag_of (declared enum) kind ≡ 0) ⊎ (tag_of (declared enum) kind ≡ 1) → (value % 256 ∷ []) ≡ bytes_of kind value
+pub one_byte : (kind : Kind) (value : ℕ) → (kind ≡ Text) ⊎ (kind ≡ Numbers) → (value % 256 ∷ []) ≡ bytes_of kind value
 one_byte Text value h = refl
 one_byte Numbers value h = refl
-one_byte Lines value h = no_way (⊎_elim (λ e. omega arith) (λ e. omega arith) h)
+one_byte Lines value h = elim h [ inl e ↦ cc | inr e ↦ cc ]
 
 -- it is the two bytes of a row or column number
 pub two_bytes : (kind : Kind) (value : ℕ) → tag_of (declared enum) kind ≡ 2 → (value % 256 ∷ value / 256 % 256 ∷ []) ≡ bytes_of kind value

@@ -24,7 +24,7 @@ returns : tie.Need-returns
 returns c =
     let h = c.before.before.before.before.before.before in
     let a = h.before.before.before.before.args in
-    shown_line a.search a.rest a.m a.n a.nonzeros a.list.now _ h.show.result h.show.ensures.0 h.show.ensures.1.0 c.before.before.before.before.match.keys2 c.before.before.put-line.ensures
+    shown_line a.search a.rest a.m a.n a.nonzeros a.list.now _ h.show.result h.show.ensures.0 h.show.ensures.1.0 c.before.before.before.before.match.not-Split c.before.before.put-line.ensures
 
 figures-of-requires : tie.Need-figures-of-requires
 figures-of-requires c κs = search rules
