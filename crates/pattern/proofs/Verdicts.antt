@@ -1,6 +1,6 @@
 -- The checks of sizes, of a nonzero and of a list, as the code makes them.
 -- Assumes nothing.
-use mathlib.Core.Bool.{Bool, true, false, not}
+use mathlib.Core.Bool.{Bool, true, false}
 use mathlib.Core.List.{List}
 use mathlib.Core.Path.{◌≡◌, refl, sym, ◌∙◌, ap}
 use Prim.Native.Nat.{ℕ, zero, suc, ◌+◌, ◌-◌, ◌*◌, ◌≤◌, ◌<◌}
@@ -13,14 +13,14 @@ use Rattle.counting.specs.Tests.{◌and◌, ◌or◌}
 use Rattle.counting.proofs.Joined.{no_way, and_fails_left, or_left, or_right, or_passed, or_fails}
 use Rattle.model.specs.contracts.Verdict.{enum}
 use Rattle.model.specs.declared.Word.{Word}
-use Rattle.model.specs.declared.Word.TheVariants.{TooBig, OffMatrix, ShortBuffer, Order, SplitNumber}
+use Rattle.model.specs.declared.Word.TheVariants.{TooBig, ShortBuffer}
 use Rattle.model.specs.declared.Verdict.{Verdict}
 use Rattle.model.specs.declared.Verdict.TheVariants.{Accepted, Refused}
 use Rattle.model.specs.declared.Caps.{Caps}
 use Rattle.model.specs.Limits.{line_limit, nonzero_limit}
-use Rattle.model.specs.Refusal.{◌then◌, refuse}
+use Rattle.model.specs.Refusal.{◌then◌}
 use Rattle.model.specs.Pattern.{entry_bytes, row_place, column_place, high_in, row_in, column_in}
-use Rattle.model.specs.Calls.{outside, sizes_verdict, rises, split_number, off_matrix, entry_verdict, entries_verdict, list_verdict, open_verdict}
+use Rattle.model.specs.Calls.{outside, sizes_verdict, rises, split_number, off_matrix, entries_verdict, list_verdict, open_verdict}
 use Rattle.model.proofs.Theorems.Checks.{refuse_so, refuse_no, then_accepted, then_refused, then_assoc}
 use Rattle.pattern.specs.Checks.{caps_verdict}
 

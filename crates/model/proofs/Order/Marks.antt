@@ -10,7 +10,7 @@ use native.Mathlib.Omega.{arith}
 use lib.Dec.{eqb, leb, ltb}
 use lib.ListN.{length}
 use borrow.Author.Tests.{leb-true, eqb-true, eq-eqb, ne_eqb, ltb-true, ltb-false}
-use Rattle.counting.specs.Tests.{◌and◌, bit}
+use Rattle.counting.specs.Tests.{bit}
 use Rattle.counting.specs.Sums.{count}
 use Rattle.counting.proofs.Joined.{no_way, by_test, and_left, and_right, pick_true, pick-false}
 use Rattle.counting.proofs.Summed.{sum-suc, sum-none}

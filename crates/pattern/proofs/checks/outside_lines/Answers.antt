@@ -1,0 +1,14 @@
+-- `pattern::outside_lines` meets its contract.
+-- Assumes nothing.
+use borrow.Author.Tests.{eq-eqb, ne_eqb}
+use Rattle.counting.specs.Tests.{◌or◌}
+use Rattle.model.specs.Calls.{outside}
+use Rattle.pattern.proofs.checks.outside_lines.Goals as goal
+
+pub returns-then-x-eq0 : goal.returns-then-x-eq0
+unfolding outside ◌or◌
+returns-then-x-eq0 c = simp (eq-eqb _ _ c.if-x-eq0.true)
+
+pub returns-else-x-eq0 : goal.returns-else-x-eq0
+unfolding outside ◌or◌
+returns-else-x-eq0 c = simp (ne_eqb _ _ c.if-x-eq0.false)
