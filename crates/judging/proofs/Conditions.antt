@@ -7,7 +7,7 @@ use Prim.Native.Nat.{ℕ, ◌+◌, ◌*◌, ◌≤◌, ◌<◌}
 use native.Mathlib.Omega.{arith}
 use lib.Dec.{eqb, ltb}
 use lib.ListN.{get_or}
-use Rattle.counting.specs.Tests.{◌and◌, bit, pick}
+use Rattle.counting.specs.Tests.{bit, pick}
 use Rattle.counting.proofs.Joined.{and_eq, or_eq}
 use Rattle.counting.proofs.Summed.{sum_eq}
 use Rattle.counting.proofs.Counted.{count_eq}

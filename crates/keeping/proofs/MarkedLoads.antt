@@ -5,7 +5,7 @@ use Prim.Native.Nat.{ℕ, zero, suc, ◌+◌, ◌-◌, ◌≤◌, ◌<◌}
 use native.Mathlib.Omega.{arith}
 use borrow.Author.Tests.{eq-eqb, ne_eqb, lt-ltb, le-ltb}
 use lib.Dec.{eqb, ltb}
-use Rattle.counting.specs.Tests.{◌or◌, pick}
+use Rattle.counting.specs.Tests.{pick}
 use Rattle.counting.proofs.Joined.{no_way, pick_true, pick-false, bit-true, bit-false}
 use Rattle.counting.proofs.Counted.{count_most}
 use Rattle.model.specs.declared.Part.{Part}

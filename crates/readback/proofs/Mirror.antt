@@ -1,6 +1,6 @@
 -- The cells of a line: its entry's own, and for symmetric the mirrored one.
 -- Assumes nothing.
-use mathlib.Core.Bool.{true, false}
+use mathlib.Core.Bool.{true}
 use mathlib.Core.List.{List}
 use mathlib.Core.Path.{◌≡◌, sym, ◌∙◌, ap, subst}
 use mathlib.Core.Logic.{⊎_elim, inl, inr, ◌⊎◌}

@@ -8,7 +8,7 @@ use native.Mathlib.Omega.{arith}
 use lib.Dec.{ltb}
 use lib.ListN.{length}
 use borrow.Author.Tests.{lt-ltb, ltb-true}
-use Rattle.counting.specs.Tests.{◌and◌, pick}
+use Rattle.counting.specs.Tests.{pick}
 use Rattle.counting.proofs.Joined.{clash, both_ways, and_passed, and_fails_left, pick_true, pick-false}
 use Rattle.model.specs.declared.Caps.{Caps}
 use Rattle.model.specs.Limits.{line_limit}

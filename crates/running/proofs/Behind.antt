@@ -8,7 +8,7 @@ use native.Mathlib.Omega.{arith}
 use lib.Dec.{eqb, ltb, leb}
 use lib.ListN.{length}
 use borrow.Author.Tests.{eq-eqb, eqb-true, lt-ltb, ltb-true, ltb-false, le-leb, leb-true, leb-false}
-use Rattle.counting.specs.Tests.{◌and◌, pick}
+use Rattle.counting.specs.Tests.{pick}
 use Rattle.counting.proofs.Joined.{no_way, by_test, both_ways, or_left, and_left, and_right, and_intro}
 use Rattle.model.specs.declared.Caps.{Caps}
 use Rattle.model.specs.Limits.{line_limit}

@@ -8,7 +8,7 @@ use native.Mathlib.Omega.{arith}
 use lib.Dec.{eqb, leb}
 use lib.ListN.{length, get_or}
 use borrow.Author.Tests.{ne_eqb, le-leb}
-use Rattle.counting.specs.Tests.{◌and◌, ◌or◌, pick, bit}
+use Rattle.counting.specs.Tests.{pick, bit}
 use Rattle.counting.proofs.Joined.{no_way, and_fails_left, or_fails, pick-false, bit-false, bit-true}
 use Rattle.counting.proofs.Summed.{sum-zero}
 use Rattle.counting.proofs.Counted.{count_none}

@@ -6,7 +6,6 @@ use mathlib.Core.Path.{◌≡◌, refl, ◌∙◌, ap}
 use Prim.Native.Nat.{ℕ, zero, suc, ◌-◌}
 use native.Mathlib.Omega.{arith}
 use lib.ListN.{length}
-use Rattle.counting.specs.Tests.{◌and◌}
 use Rattle.counting.proofs.Joined.{clash, no_way, and_left}
 use Rattle.model.specs.Marking.{mark_at}
 use Rattle.model.specs.Walk.{Rules, is_empty, advance}

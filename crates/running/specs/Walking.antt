@@ -1,6 +1,6 @@
 -- Tries made on what is kept of the trail's marks but the last.
 -- Assumes nothing.
-use Rattle.std.specs.Prelude.{true, List, [], ◌∷◌, ◌≡◌, ℕ, ◌≤◌, ◌<◌, ltb, length, get_or}
+use Rattle.std.specs.Prelude.{true, List, ◌∷◌, ◌≡◌, ℕ, ◌≤◌, ◌<◌, ltb, length, get_or}
 use Rattle.counting.specs.Tests.{◌and◌, pick}
 use Rattle.model.specs.declared.Caps.{Caps}
 use Rattle.model.specs.Limits.{line_room}

@@ -10,7 +10,7 @@ use native.Mathlib.Omega.{arith}
 use lib.Dec.{eqb, ltb, leb}
 use lib.ListN.{length, get_or}
 use borrow.Author.Tests.{ltb-true, ltb-false, leb-true, lt-ltb, le-ltb, le-leb, lt-leb, eq-eqb, ne_eqb}
-use Rattle.counting.specs.Tests.{◌and◌, ◌or◌}
+use Rattle.counting.specs.Tests.{◌or◌}
 use Rattle.counting.proofs.Joined.{by_test, and_left, and_right, and_intro, and_passed, and_fails_left, and_fails_right, pick_true, pick-false}
 use Rattle.scanning.specs.declared.Stretch.{Stretch}
 use Rattle.scanning.specs.declared.Stretch.TheVariants.{Line, Digits}

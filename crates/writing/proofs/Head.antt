@@ -3,12 +3,11 @@
 use mathlib.Core.Bool.{true, false, not}
 use mathlib.Core.List.{List, [], ◌∷◌, ◌++◌, append_assoc}
 use mathlib.Core.Path.{◌≡◌, sym, ◌∙◌, ap}
-use Prim.Native.Nat.{ℕ, ◌+◌, ◌-◌, ◌^◌, ◌<◌}
+use Prim.Native.Nat.{ℕ, ◌+◌, ◌^◌, ◌<◌}
 use native.Mathlib.Omega.{arith}
 use lib.Dec.{ltb}
 use lib.ListN.{length, get_or, length-append}
 use borrow.Author.Tests.{not-true}
-use Rattle.counting.specs.Tests.{◌and◌, ◌or◌}
 use Rattle.counting.proofs.Joined.{or_fails, and_fails_right}
 use Rattle.scanning.specs.declared.Field.TheVariants.{Integer}
 use Rattle.scanning.specs.Classes.{class_of, is_percent}

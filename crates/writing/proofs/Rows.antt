@@ -3,11 +3,10 @@
 use mathlib.Core.Bool.{true, false}
 use mathlib.Core.List.{List, [], ◌∷◌, ◌++◌}
 use mathlib.Core.Path.{◌≡◌, ◌∙◌, ap}
-use Prim.Native.Nat.{ℕ, ◌+◌, ◌-◌, ◌^◌, ◌<◌}
+use Prim.Native.Nat.{ℕ, ◌+◌, ◌^◌, ◌<◌}
 use native.Mathlib.Omega.{arith}
 use lib.ListN.{length}
 use borrow.Author.Tests.{ne_eqb}
-use Rattle.counting.specs.Tests.{◌or◌}
 use Rattle.scanning.specs.declared.Field.TheVariants.{Integer}
 use Rattle.scanning.specs.declared.Stretch.TheVariants.{Blanks}
 use Rattle.scanning.specs.Lines.{stretch_end, line_end, line_next, empty_line}

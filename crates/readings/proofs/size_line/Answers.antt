@@ -1,4 +1,4 @@
-use Rattle.std.proofs.Common.{◌≡◌, ℕ, List, length, true, false, sym, ◌∙◌, ap, refl, arith}
+use Rattle.std.proofs.Common.{◌≡◌, ℕ, List, length, true, false, sym, ◌∙◌, ap}
 use Rattle.scanning.specs.Lines.{skipped, line_next, size_line_at}
 use Rattle.scanning.proofs.Scans.{skip_falls, size-on, size-here}
 use Rattle.readings.specs.declared.Reading.{Reading}

@@ -1,0 +1,9 @@
+-- `matching::augmenting::no_mates` meets its contract.
+-- Assumes nothing.
+use borrow.Author.Rules.{rules}
+use Rattle.matching.specs.Augmenting.{no_columns}
+use Rattle.matching.proofs.augmenting.no_mates.Goals as goal
+
+pub returns : goal.returns
+unfolding no_columns
+returns c = search rules
