@@ -4,8 +4,8 @@
  * A line, which is a row or a column, is cut if it has nonzeros in both parts, and the volume of a split is its number of cut
  * lines. A complete search gives a split of the least volume under the caps.
  *
- * Build the archive with `rt staticlib gulzoreno` and link target/staticlib/libgulzoreno.a. It needs memcpy and memset of the C
- * library and nothing else. */
+ * Build the archive with `rt lib` in crates/gulzoreno_c and link its out/libgulzoreno_c.a, or a copy under the name libgulzoreno.a
+ * as examples/run makes it. It needs memcpy and memset of the C library and nothing else. */
 #ifndef GULZORENO_H
 #define GULZORENO_H
 
