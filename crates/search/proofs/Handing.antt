@@ -1,11 +1,10 @@
 -- What a call is handed: where the table, read with a record of the walk, refuses neither list nor state, its pattern is the opening's.
 -- Assumes nothing.
-use mathlib.Core.Bool.{true, not}
+use mathlib.Core.Bool.{not}
 use mathlib.Core.List.{List}
 use mathlib.Core.Path.{◌≡◌, refl, sym, ◌∙◌}
 use Prim.Native.Nat.{ℕ}
-use borrow.Author.Tests.{eqb-true, not-false}
-use Rattle.counting.proofs.Joined.{and_left, and_right}
+use borrow.Author.Tests.{not-false}
 use Rattle.model.specs.declared.Word.TheVariants.{State}
 use Rattle.model.specs.declared.Verdict.{Verdict}
 use Rattle.model.specs.declared.Verdict.TheVariants.{Accepted, Refused}
@@ -13,7 +12,7 @@ use Rattle.model.specs.declared.Caps.{Caps}
 use Rattle.model.specs.declared.Search.{Search}
 use Rattle.model.specs.Refusal.{refuse, ◌then◌}
 use Rattle.model.specs.Pattern.{Pattern, pattern_of}
-use Rattle.model.specs.Walk.{Record, Rules, rules_of}
+use Rattle.model.specs.Walk.{Record, rules_of}
 use Rattle.model.specs.State.{state_fine}
 use Rattle.model.specs.Calls.{list_verdict, ran_after, shown_after, parts_after}
 use Rattle.model.proofs.Walk.Reached.{For}

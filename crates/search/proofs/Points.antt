@@ -3,7 +3,7 @@
 use mathlib.Core.List.{List}
 use mathlib.Core.Option.{some}
 use mathlib.Core.Path.{◌≡◌, sym, ◌∙◌, ap}
-use Prim.Native.Nat.{ℕ, ◌+◌, ◌*◌, ◌≤◌}
+use Prim.Native.Nat.{ℕ, ◌+◌, ◌≤◌}
 use native.Mathlib.Omega.{arith}
 use lib.ListN.{length}
 use borrow.Author.Tests.{ltb-false}
@@ -12,7 +12,7 @@ use Rattle.model.specs.declared.Word.TheVariants.{ShortBuffer}
 use Rattle.model.specs.declared.Verdict.TheVariants.{Accepted}
 use Rattle.model.specs.declared.Caps.{Caps}
 use Rattle.model.specs.declared.Search.{Search}
-use Rattle.model.specs.Limits.{line_limit, tries_limit}
+use Rattle.model.specs.Limits.{tries_limit}
 use Rattle.model.specs.Pattern.{Pattern, Inside, pattern_of, line_total}
 use Rattle.model.specs.Split.{volume}
 use Rattle.model.specs.Walk.{Record, rules_of, fresh_of, walk, walked}
