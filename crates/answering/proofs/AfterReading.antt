@@ -10,7 +10,7 @@ use borrow.Author.Tests.{le-ltb}
 use Rattle.counting.proofs.Joined.{pick-false}
 use Rattle.model.specs.declared.Word.TheVariants.{ShortBuffer, Cap, Budget}
 use Rattle.model.specs.declared.Verdict.{Verdict}
-use Rattle.model.specs.declared.Verdict.TheVariants.{Accepted, Refused}
+use Rattle.model.specs.declared.Verdict.TheVariants.{Accepted}
 use Rattle.model.specs.declared.Caps.{Caps}
 use Rattle.model.specs.declared.Search.{Search}
 use Rattle.model.specs.declared.RunAnswer.{RunAnswer}

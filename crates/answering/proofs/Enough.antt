@@ -12,7 +12,6 @@ use borrow.Author.Tests.{lt-ltb, ltb-true, ltb-false}
 use Rattle.counting.specs.Tests.{◌and◌, pick}
 use Rattle.counting.proofs.Joined.{by_test}
 use Rattle.model.specs.declared.Word.TheVariants.{EntryForm, TooBig}
-use Rattle.model.specs.declared.Verdict.TheVariants.{Refused}
 use Rattle.model.specs.Refusal.{◌then◌}
 use Rattle.model.proofs.Theorems.Checks.{refuse_so}
 use Rattle.scanning.specs.declared.Stretch.{Stretch}
