@@ -152,6 +152,7 @@ fn column_visit(
 }
 
 // Row i has a conflict. One that leans to no part has none.
+#[tactic(auto, using(crate::proofs::Visits::Row::row_passed))]
 fn has_conflict(
     lean: &[u8; LINE_ROOM],
     m: u16,

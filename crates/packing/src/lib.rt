@@ -35,6 +35,7 @@ pub struct PackedTrail {
 }
 
 // 1 for a mark 0 or 1, else 0.
+#[tactic(auto, unfolding(counting::specs::Tests::bit))]
 fn part(mark: u64) -> usize
     ensures { (result ≡ bit (is_part mark)) × (result ≤ 1) }
 {

@@ -13,13 +13,14 @@ use Rattle.counting.specs.Tests.{◌and◌, ◌or◌}
 use Rattle.counting.proofs.Joined.{no_way, and_fails_left, or_left, or_right, or_passed, or_fails}
 use Rattle.model.specs.contracts.Verdict.{enum}
 use Rattle.model.specs.declared.Word.{Word}
-use Rattle.model.specs.declared.Word.TheVariants.{TooBig, ShortBuffer}
+use Rattle.model.specs.declared.Word.TheVariants.{TooBig, ShortBuffer, Cap, NoSplit}
 use Rattle.model.specs.declared.Verdict.{Verdict}
 use Rattle.model.specs.declared.Verdict.TheVariants.{Accepted, Refused}
 use Rattle.model.specs.declared.Caps.{Caps}
 use Rattle.model.specs.Limits.{line_limit, nonzero_limit}
 use Rattle.model.specs.Refusal.{◌then◌}
 use Rattle.model.specs.Pattern.{entry_bytes, row_place, column_place, high_in, row_in, column_in}
+use Rattle.model.specs.Split.{caps_outside}
 use Rattle.model.specs.Calls.{outside, sizes_verdict, rises, split_number, off_matrix, entries_verdict, list_verdict, open_verdict}
 use Rattle.model.proofs.Theorems.Checks.{refuse_so, refuse_no, then_accepted, then_refused, then_assoc}
 use Rattle.pattern.specs.Checks.{caps_verdict}
@@ -175,3 +176,13 @@ pub open_is :
     open_verdict m n nonzeros list caps ≡ (list_verdict m n nonzeros list then caps_verdict nonzeros caps)
 unfolding open_verdict caps_verdict
 open_is m n nonzeros list caps = then_assoc _ _ _
+
+-- caps in range that together are below N
+pub caps_short : (nonzeros : ℕ) (caps : Caps) → caps_outside caps ≡ false → caps.cap0 + caps.cap1 < nonzeros → Refused NoSplit 0 ≡ caps_verdict nonzeros caps
+unfolding caps_verdict
+caps_short nonzeros caps fine short = sym (then_accepted _ (refuse_no Cap 0 fine) ∙ refuse_so NoSplit 0 (lt-ltb _ _ short))
+
+-- caps in range that together are at least N
+pub caps_enough : (nonzeros : ℕ) (caps : Caps) → caps_outside caps ≡ false → nonzeros ≤ caps.cap0 + caps.cap1 → Accepted ≡ caps_verdict nonzeros caps
+unfolding caps_verdict
+caps_enough nonzeros caps fine enough = sym (then_accepted _ (refuse_no Cap 0 fine) ∙ refuse_no NoSplit 0 (le-ltb _ _ enough))

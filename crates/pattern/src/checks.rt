@@ -177,6 +177,7 @@ pub fn list_verdict(m: u64, n: u64, nonzeros: u64, list: &[u8]) -> Verdict
 }
 
 // 11, 12: either cap outside its range; N above their sum.
+#[tactic(auto, using(crate::proofs::Verdicts::caps_short, crate::proofs::Verdicts::caps_enough))]
 fn caps_verdict(nonzeros: u64, caps: Caps) -> Verdict
     ensures { result ≡ caps_verdict nonzeros caps }
 {

@@ -176,3 +176,8 @@ state_is R m n nonzeros s trail best a b =
     and counts_fine s.tries s.looks m nonzeros
     and a i
     and b i
+
+-- a best marking of another length than k is not full
+pub other_length : (best : Trail) (k : ℕ) (valid : Bool) (count : ℕ) → (best.len ≡ k → ⊥) → false ≡ full_by best k valid count
+unfolding full_by ◌and◌
+other_length best k valid count h = simp (ne_eqb _ _ h)

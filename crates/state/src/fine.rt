@@ -34,6 +34,7 @@ pub(crate) fn trail_fine(trail: Trail, complete: bool, k: usize, valid: bool, fi
 }
 
 // A best marking is full, valid and legal, and has best count cut lines.
+#[tactic(auto, using(crate::proofs::StateLaws::other_length))]
 fn full_fine(best: Trail, k: usize, valid: bool, count: u64) -> bool
     ensures { result ≡ full_by best k valid count }
 {

@@ -15,7 +15,7 @@ use Rattle.model.specs.Walk.{is_empty}
 use Rattle.model.proofs.Matching.Columns.{where_take, where_pass, where_none}
 use Rattle.model.proofs.Matching.Visits.{looked_twice, looked-none, through-none, through-found, through-on}
 use Rattle.matching.specs.declared.augmenting.Visit as code
-use Rattle.matching.specs.Augmenting.{Ground, different, at_odds, columns_from, columns_in, entered_in, mates_in, unseen, ColumnVisits, side_room}
+use Rattle.matching.specs.Augmenting.{ground_of, Ground, different, at_odds, columns_from, columns_in, entered_in, mates_in, unseen, ColumnVisits, side_room}
 
 -- no column is left past the last nonzero
 pub from-none : (G : Ground) (i end t : ℕ) → end ≤ t → columns_from G i (end - t) t ≡ []
@@ -71,6 +71,10 @@ in_passed G i h =
     (ltb i side_room)
     (λ b. pick_true _ _ b ∙ from_passed G i _ _ h)
     (λ b. row-outside G i b))
+
+-- the same of a row's leaning as it is read
+pub row_passed : (lean : List ℕ) (m : ℕ) (list starts : List ℕ) (i : ℕ) → 1 < get_or lean i 0 → false ≡ not (is_empty (columns_in (ground_of lean m list starts) i))
+row_passed lean m list starts i h = sym (in_passed (ground_of lean m list starts) i h)
 
 -- a row with a conflict is not past the last
 pub some_inside : (G : Ground) (i : ℕ) → not (is_empty (columns_in G i)) ≡ true → i < side_room

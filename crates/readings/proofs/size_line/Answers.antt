@@ -1,3 +1,5 @@
+-- `readings::size_line` meets its contract.
+-- Assumes nothing.
 use Rattle.std.proofs.Common.{◌≡◌, ℕ, List, length, true, false, sym, ◌∙◌, ap}
 use Rattle.scanning.specs.Lines.{skipped, line_next, size_line_at}
 use Rattle.scanning.proofs.Scans.{skip_falls, size-on, size-here}

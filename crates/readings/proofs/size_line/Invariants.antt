@@ -1,8 +1,9 @@
+-- `readings::size_line` meets its contract. The loop's invariant: the text stays, and the size line from here on is that from the second line on.
+-- Assumes nothing.
 use Rattle.std.proofs.Common.{◌≡◌, length, ◌-◌}
 use Rattle.scanning.specs.Lines.{line_next, size_line_at}
 use Rattle.readings.proofs.size_line.Given as goal
 
--- the text stays, and the size line from here is that from the second line
 abbrev pub invariant-loop-reading : goal.invariant-loop-reading
 invariant-loop-reading l =
     (l.reading.text.now ≡ l.text)

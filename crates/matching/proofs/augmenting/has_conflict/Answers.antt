@@ -2,23 +2,14 @@ use mathlib.Core.Bool.{Bool, not}
 use mathlib.Core.List.{List}
 use mathlib.Core.Path.{sym, ◌∙◌, ap}
 use Prim.Native.Nat.{ℕ}
-use native.Mathlib.Omega.{arith}
-use lib.ListN.{get_or}
 use Rattle.model.specs.Walk.{is_empty}
 use Rattle.matching.specs.Augmenting.{ground_of}
-use Rattle.matching.proofs.Visits.Row.{any_begins, from-none, in_passed, from_pass, from-take}
+use Rattle.matching.proofs.Visits.Row.{any_begins, from-none, from_pass, from-take}
 use Rattle.matching.proofs.augmenting.has_conflict.Goals as goal
 
 -- some column is left
 abbrev some_left : List ℕ → Bool
 some_left js = not (is_empty js)
-
-pub returns-then-byte_at-gt1 : goal.returns-then-byte_at-gt1
-returns-then-byte_at-gt1 c =
-    let a = c.args in
-    let G = ground_of a.lean.now a.m a.list.now a.starts.now in
-    let row = c.wide16.ensures.0 in
-    sym (in_passed G a.i (omega (arith, c.byte_at.ensures, ap (λ (x : ℕ). get_or a.lean.now x 0) row)))
 
 pub loop-t-init : goal.loop-t-init
 loop-t-init c =

@@ -2,7 +2,6 @@
 -- Assumes nothing.
 use mathlib.Core.Path.{sym, ◌∙◌}
 use native.Mathlib.Omega.{arith}
-use borrow.Author.Tests.{lt-ltb, le-ltb}
 use Rattle.model.specs.declared.Part.TheVariants.{Zero, One}
 use Rattle.model.specs.Refusal.{refuse, ◌then◌}
 use Rattle.model.proofs.Theorems.Accepted.{caps_ranged}
@@ -17,11 +16,3 @@ pub overflow_add-caps : goal.overflow_add-caps
 overflow_add-caps c =
     let small = sym c.caps_outside.ensures ∙ c.if-caps_outside.false in
     record { fits = omega (arith, caps_ranged _ small Zero, caps_ranged _ small One) }
-
-pub returns-then-caps-nonzeros : goal.returns-then-caps-nonzeros
-unfolding caps_verdict ◌then◌ refuse
-returns-then-caps-nonzeros c = simp (sym c.caps_outside.ensures ∙ c.if-caps_outside.false, lt-ltb _ _ c.if-caps-nonzeros.true)
-
-pub returns : goal.returns
-unfolding caps_verdict ◌then◌ refuse
-returns c = simp (sym c.caps_outside.ensures ∙ c.if-caps_outside.false, le-ltb _ _ c.if-caps-nonzeros.false)
