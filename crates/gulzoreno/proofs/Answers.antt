@@ -2,12 +2,14 @@
 -- Assumes nothing.
 use mathlib.Core.List.{List}
 use mathlib.Core.Path.{◌≡◌, refl, sym, ◌∙◌, ap}
-use Prim.Native.Nat.{ℕ}
+use Prim.Native.Nat.{ℕ, ◌<◌}
 use native.Mathlib.Omega.{arith}
+use borrow.Author.Tests.{lt-ltb}
 use denote.Enum.Declared.{tag_of, declared}
 use Rattle.counting.proofs.Joined.{no_way}
 use Rattle.model.specs.contracts.ShowAnswer.{enum}
 use Rattle.model.specs.declared.Word.{Word}
+use Rattle.model.specs.declared.Word.TheVariants.{Budget}
 use Rattle.model.specs.declared.Verdict.{Verdict}
 use Rattle.model.specs.declared.Verdict.TheVariants.{Accepted, Refused}
 use Rattle.model.specs.declared.Caps.{Caps}
@@ -16,10 +18,18 @@ use Rattle.model.specs.declared.Opened.{Opened}
 use Rattle.model.specs.declared.Ran.{Ran}
 use Rattle.model.specs.declared.ShowAnswer.{ShowAnswer}
 use Rattle.model.specs.declared.ShowAnswer.TheVariants as show-answer
+use Rattle.model.specs.Limits.{budget_limit}
 use Rattle.model.specs.Refusal.{refusal_code, ◌then◌, reply_code, given, none_yet, refusal}
 use Rattle.model.specs.Calls.{open_verdict, open_call, run_call, show_call, show_parts, show_code, show_reply}
+use Rattle.model.proofs.Theorems.Checks.{refuse_so, then_refused}
 use Rattle.gulzoreno.specs.Figures.{with_figures}
 use Rattle.gulzoreno.specs.Host.{output_verdict, host_verdict, host_search, host_code_after, host_parts_after, figures_shown, host_figures_after, bipartition_code, bipartition_parts, bipartition_figures}
+
+-- a budget over a call's range is refused
+pub budget_over :
+    (nonzeros budget : ℕ) (parts figures : List ℕ) → budget_limit < budget → Refused Budget 0 ≡ output_verdict nonzeros budget parts figures
+unfolding output_verdict
+budget_over nonzeros budget parts figures h = sym (then_refused _ (refuse_so Budget 0 (lt-ltb _ _ h)))
 
 -- an answer with the second tag is "none yet"
 none-code : (a : ShowAnswer) → tag_of (declared enum) a ≡ 1 → 255 ≡ show_code a

@@ -25,6 +25,7 @@ fn refusal_code(word: Word, place: u64) -> u64
 }
 
 // The checks after the opening: the budget, then the output slices.
+#[tactic(auto, using(crate::proofs::Answers::budget_over))]
 fn output_verdict(nonzeros: u64, budget: u64, parts: &[u8], figures: &[u8]) -> Verdict
     ensures { result ≡ output_verdict nonzeros budget parts.now figures.now }
 {
