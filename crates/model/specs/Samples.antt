@@ -259,7 +259,7 @@ unequal_caps =
       equal_first = refl;
     }
 
--- request 6, rows.##, #.#, ##. and #..: a walk on which it shows whose looks are counted
+-- request 6, rows .##, #.#, ##. and #..: a walk on which it shows whose looks are counted
 abbrev pub ring : Pattern
 ring = pattern_of 4 3 7 (list_of (0 ∷ 1 ∷ 0 ∷ 2 ∷ 1 ∷ 0 ∷ 1 ∷ 2 ∷ 2 ∷ 0 ∷ 2 ∷ 1 ∷ 3 ∷ 0 ∷ []))
 
