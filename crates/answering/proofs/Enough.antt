@@ -1,6 +1,7 @@
 -- The first bytes of an input are enough: a first line and a text, each at its limit, and one byte more.
 -- Assumes nothing.
 use mathlib.Core.Bool.{Bool, false}
+use Rattle.std.specs.Prelude.{Option, Some, None}
 use mathlib.Core.List.{List}
 use mathlib.Core.Path.{◌≡◌, refl, sym, ◌∙◌, ap}
 use Prim.Native.Nat.{ℕ, zero, suc, ◌+◌, ◌-◌, ◌*◌, ◌≤◌, ◌<◌}
@@ -11,23 +12,22 @@ use lib.Seq.{take_all, length-take-le, get_or-take}
 use borrow.Author.Tests.{lt-ltb, ltb-true, ltb-false}
 use Rattle.counting.specs.Tests.{◌and◌, pick}
 use Rattle.counting.proofs.Joined.{by_test}
-use Rattle.model.specs.declared.Word.TheVariants.{EntryForm, TooBig}
-use Rattle.model.specs.Refusal.{◌then◌}
+use Rattle.model.specs.declared.Word.TheVariants.{TooBig}
+use Rattle.model.specs.Refusal.{refused}
 use Rattle.model.proofs.Theorems.Checks.{refuse_so}
 use Rattle.scanning.specs.declared.Stretch.{Stretch}
 use Rattle.scanning.specs.declared.Stretch.TheVariants.{Digits}
 use Rattle.scanning.specs.Classes.{class_of, stretches_over, cased, digit_of}
 use Rattle.scanning.specs.Lines.{past, stretches_at, stretch_end}
-use Rattle.scanning.specs.Words.{spells, same_word, is_number, value_of, number_value}
-use Rattle.texts.specs.declared.ReadAnswer.TheVariants as read_answer
+use Rattle.scanning.specs.Words.{spells, same_word, is_number, value_of, number_between}
 use Rattle.texts.specs.Header.{text_limit, head_verdict}
 use Rattle.texts.specs.Reading.{answer_read, text_verdict, read_verdict, read_call}
 use Rattle.answering.specs.declared.Command.{Command}
 use Rattle.answering.specs.FirstLine.{#percent, #budget, command_of}
-use Rattle.answering.specs.Answer.{list_room, parts_room, Answer, gives_refusal, printed_as, pattern_answer, answer_to, answer_text}
+use Rattle.answering.specs.Answer.{list_room, parts_room, Answer, printed_as, after_line, answer_to, answer_text}
 use Rattle.answering.specs.Printing.{first_line_limit, input_room}
 use Rattle.scanning.proofs.Scans.{stretch_after}
-use Rattle.answering.proofs.FirstLine.{stretch_within}
+use Rattle.answering.proofs.FirstLine.{stretch_within, command-short}
 use Rattle.answering.proofs.Steps.{text_refused}
 
 -- two inputs have the same bytes where a first line can stand
@@ -77,11 +77,11 @@ module _ (a b : List ℕ) (same : Alike a b) where
       ap (λ (x : ℕ). x * 10 + digit_of (get_or a (from + k) 0)) (digits_same from k (omega arith))
       ∙ ap (λ (x : ℕ). value_of b from k * 10 + digit_of x) (same (from + k) (omega arith))
 
-  value_same : (from stop : ℕ) → from ≤ stop → stop ≤ first_line_limit → number_value a from stop ≡ number_value b from stop
-  unfolding number_value
-  value_same from stop h g =
-      ap (λ (t : Bool). pick t (value_of a from (stop - from)) 0) (number_same from stop (omega arith) g)
-      ∙ ap (λ (x : ℕ). pick (is_number b from stop) x 0) (digits_same from (stop - from) (omega arith))
+  between_same : (from stop : ℕ) → from ≤ stop → stop ≤ first_line_limit → number_between a from stop ≡ number_between b from stop
+  unfolding number_between
+  between_same from stop h g =
+      ap (λ (t : Bool). pick t (Some (value_of a from (stop - from))) None) (number_same from stop (omega arith) g)
+      ∙ ap (λ (x : ℕ). pick (is_number b from stop) (Some x) None) (digits_same from (stop - from) (omega arith))
 
   -- the first line ends within its limit, and is the same
   command_same : command_of a ≡ command_of b
@@ -94,41 +94,36 @@ module _ (a b : List ℕ) (same : Alike a b) where
       let starts : 8 ≤ stop = stretch_after Digits b 8 18 in
       let later : stop + 8 ≤ end = stretch_after Digits b (stop + 8) (stop + 8 + 10) in
       rw
-      (stretch_same Digits 8 18 (omega arith) (omega arith), stretch_same Digits (stop + 8) (stop + 8 + 10) (omega arith) (omega arith), word_same 0 8 #percent (omega arith), word_same stop (stop + 8) #budget (omega arith), number_same 8 stop (omega arith) (omega arith), number_same (stop + 8) end (omega arith) (omega arith), value_same 8 stop starts (omega arith), value_same (stop + 8) end later (omega arith), same end (omega arith))
-
--- where the text starts
-command-next : (input : List ℕ) → (command_of input).next ≤ first_line_limit
-unfolding command_of
-command-next input =
-    let stop = stretch_end Digits input 8 18 in
-    let short : stop ≤ 18 = stretch_within Digits input 8 18 (omega arith) in
-    omega (arith, stretch_within Digits input (stop + 8) (stop + 8 + 10) (omega arith))
+      (stretch_same Digits 8 18 (omega arith) (omega arith), stretch_same Digits (stop + 8) (stop + 8 + 10) (omega arith) (omega arith), word_same 0 8 #percent (omega arith), word_same stop (stop + 8) #budget (omega arith), between_same 8 stop starts (omega arith), between_same (stop + 8) end later (omega arith), same end (omega arith))
 
 -- a text over the limit is refused, whatever follows
-over_refused : (text : List ℕ) → text_limit < length text → read_call text list_room parts_room ≡ read_answer.Refused TooBig 0
-unfolding read_call read_verdict text_verdict head_verdict answer_read ◌then◌
+over_refused : (text : List ℕ) → text_limit < length text → read_call text list_room parts_room ≡ refused TooBig 0
+unfolding read_call read_verdict text_verdict head_verdict answer_read
 over_refused text h = rw (refuse_so {test = ltb text_limit (length text)} TooBig 0 (lt-ltb text_limit (length text) h))
 
 module _ (input : List ℕ) where
   first_bytes : Alike (take input_room input) input
   first_bytes i l = get_or-take input_room input i 0 (omega arith)
 
-  long_same : input_room < length input → answer_to (take input_room input) ≡ answer_to input
-  unfolding answer_to
-  long_same h =
+  -- two long inputs with one command
+  long_by :
+      (o : Option Command) → command_of input ≡ o → input_room < length input → after_line o (take input_room input) ≡ after_line o input
+  unfolding after_line
+  long_by None e h = refl
+  long_by (Some o) e h =
       let first = take input_room input in
-      let o = command_of input in
-      let near = command-next input in
+      let near = command-short input o e in
       let whole = length-take-le input_room input (omega arith) in
       let short : text_limit < length (drop o.next first) = omega (arith, length-drop o.next first, whole, near) in
       let long : text_limit < length (drop o.next input) = omega (arith, length-drop o.next input, near) in
-      ap
-      (λ (x : Command). pick x.fine (pattern_answer (drop x.next first) x.percent x.budget) (gives_refusal EntryForm 0))
-      (command_same first input first_bytes)
-      ∙ ap
-      (λ (a : Answer). pick o.fine a (gives_refusal EntryForm 0))
-      (text_refused (drop o.next first) o.percent o.budget TooBig 0 (over_refused _ short)
-      ∙ sym (text_refused (drop o.next input) o.percent o.budget TooBig 0 (over_refused _ long)))
+      text_refused (drop o.next first) o.percent o.budget (over_refused _ short)
+      ∙ sym (text_refused (drop o.next input) o.percent o.budget (over_refused _ long))
+
+  long_same : input_room < length input → answer_to (take input_room input) ≡ answer_to input
+  unfolding answer_to
+  long_same h =
+      ap (λ (o : Option Command). after_line o (take input_room input)) (command_same (take input_room input) input first_bytes)
+      ∙ long_by (command_of input) refl h
 
   -- the answer to what is read of an input is the answer to the input
   answer_same : answer_to (take input_room input) ≡ answer_to input

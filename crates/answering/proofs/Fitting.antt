@@ -1,20 +1,18 @@
 -- Every answer has at most `written_most` bytes, and so fits the program's output.
 -- Assumes nothing.
+use Rattle.std.specs.Prelude.{Ok, Err}
 use mathlib.Core.List.{List, ◌++◌}
 use mathlib.Core.Path.{◌≡◌, refl}
 use Prim.Native.Nat.{ℕ, ◌≤◌}
 use native.Mathlib.Omega.{arith}
 use lib.Dec.{ltb}
 use lib.ListN.{length, length-append}
-use Rattle.counting.proofs.Joined.{by_test, pick_true, pick-false}
+use Rattle.counting.proofs.Joined.{by_test}
 use Rattle.model.specs.declared.Word.{Word}
 use Rattle.model.specs.declared.Word.TheVariants.{ShortBuffer}
-use Rattle.model.specs.declared.Verdict.{Verdict}
-use Rattle.model.specs.declared.Verdict.TheVariants.{Accepted, Refused}
-use Rattle.model.specs.Refusal.{refusal_number}
-use Rattle.writing.specs.declared.WriteAnswer.TheVariants as write-answer
+use Rattle.model.specs.Refusal.{Verdict, accepted, refusal_number, ◌then◌}
 use Rattle.writing.specs.Written.{number_text, figure_text, figures_text, text_of}
-use Rattle.writing.specs.Writing.{write_verdict, length_answer, answer_written, write_call}
+use Rattle.writing.specs.Writing.{write_verdict, length_answer, write_call}
 use Rattle.writing.specs.Lines.{#refused, #at, #none, refused_text, none_text}
 use Rattle.writing.proofs.Puttings.{number_short, figure_short, figures-short}
 use Rattle.readback.proofs.Accepted.{fine_split}
@@ -34,15 +32,15 @@ none-short cap0 cap1 rest tries floor =
 
 module _ (out : List ℕ) where
   after-short :
-      (v : Verdict) (text : List ℕ) → (v ≡ Accepted → length text ≤ written_most) →
-      length (after_writing (answer_written v text out) text) ≤ written_most
-  unfolding answer_written length_answer after_writing
-  after-short Accepted text h =
+      (v : Verdict) (text : List ℕ) → (v ≡ accepted → length text ≤ written_most) →
+      length (after_writing (v then length_answer text out) text) ≤ written_most
+  unfolding length_answer after_writing
+  after-short (Ok _) text h =
       by_test
       (ltb (length out) (length text))
-      (λ e. rw (pick_true (write-answer.Refused ShortBuffer 0) (write-answer.Written (length text)) e) (refused_short ShortBuffer 0))
-      (λ e. rw (pick-false (write-answer.Refused ShortBuffer 0) (write-answer.Written (length text)) e) (h refl))
-  after-short (Refused word place) text h = refused_short word place
+      (λ e. rw e (refused_short ShortBuffer 0))
+      (λ e. rw e (h refl))
+  after-short (Err refusal) text h = refused_short refusal.word refusal.place
 
   printed-short : (a : Answer) → length (printed_as a out) ≤ written_most
   unfolding printed_as write_call

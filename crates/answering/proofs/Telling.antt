@@ -1,5 +1,6 @@
 -- What an answer tells: a refusal's line its number, "none yet" and a split that nothing is refused.
 -- Assumes nothing.
+use Rattle.std.specs.Prelude.{unwrap_or, Ok, Err}
 use mathlib.Core.Bool.{Bool, true, false}
 use mathlib.Core.List.{List, [], ◌∷◌, ◌++◌}
 use mathlib.Core.Path.{◌≡◌, refl, sym, ◌∙◌, ap}
@@ -9,9 +10,7 @@ use lib.ListN.{length, length-append}
 use Rattle.counting.specs.Tests.{◌and◌, pick}
 use Rattle.counting.proofs.Joined.{no_way, pick_true}
 use Rattle.model.specs.declared.Word.{Word}
-use Rattle.model.specs.declared.Verdict.{Verdict}
-use Rattle.model.specs.declared.Verdict.TheVariants.{Accepted, Refused}
-use Rattle.model.specs.Refusal.{refusal_number, refuse, ◌then◌}
+use Rattle.model.specs.Refusal.{Verdict, accepted, refused, refusal_number, refuse, ◌then◌}
 use Rattle.model.proofs.Theorems.Numbers.{number_range}
 use Rattle.scanning.specs.Classes.{cased}
 use Rattle.scanning.specs.Lines.{past}
@@ -50,13 +49,13 @@ module _ (word : Word) (place : ℕ) where
   unfolding refusal_in
   number_in =
       let line = refused_text word place in
-      pick_true (number_at line 8 (length line)).value 0 begins
-      ∙ ap (λ x. x.value) (number-first line 8 (length line) number held (omega (arith, (number_range word).1)) inside)
+      pick_true (unwrap_or (number_at line 8 (length line)).value 0) 0 begins
+      ∙ ap (λ x. unwrap_or x.value 0) (number-first line 8 (length line) number held (omega (arith, (number_range word).1)) inside)
 
 -- "none yet" and a split are no refusals
 none_tells : (cap0 cap1 rest tries floor : ℕ) → refusal_in (none_text cap0 cap1 rest tries floor) ≡ 0
 unfolding none_text refusal_in same_word spells past cased pick ◌and◌
-none_tells cap0 cap1 rest tries floor = refl
+none_tells _ _ _ _ _ = refl
 
 split_tells : (m n nonzeros : ℕ) (list parts : List ℕ) (f : Figures) → refusal_in (text_of m n nonzeros list parts f) ≡ 0
 unfolding text_of head_text refusal_in same_word spells past cased pick ◌and◌
@@ -68,29 +67,27 @@ no_number (none_yet cap0 cap1 rest tries floor e) = ap refusal_in e ∙ none_tel
 
 -- an answer tells the first of two verdicts that refuses
 pub tells_then :
-    {answer : List ℕ} (v w : Verdict) → ((word : Word) (place : ℕ) → v ≡ Refused word place → answer ≡ refused_text word place) →
-    (v ≡ Accepted → Tells w answer) → Tells (v then w) answer
-unfolding ◌then◌
-tells_then Accepted w refused accepted = accepted refl
-tells_then (Refused word place) w refused accepted = refused word place refl
+    {answer : List ℕ} (v w : Verdict) → ((word : Word) (place : ℕ) → v ≡ refused word place → answer ≡ refused_text word place) →
+    (v ≡ accepted → Tells w answer) → Tells (v then w) answer
+tells_then (Ok _) w stops passes = passes refl
+tells_then (Err refusal) w stops passes = stops refusal.word refusal.place refl
 
 pub tells_check :
     {answer : List ℕ} (test : Bool) (word : Word) (place : ℕ) (w : Verdict) → (test ≡ true → answer ≡ refused_text word place) →
     (test ≡ false → Tells w answer) → Tells (refuse test word place then w) answer
-unfolding refuse ◌then◌
-tells_check true word place w refused accepted = refused refl
-tells_check false word place w refused accepted = accepted refl
+tells_check true word place w stops passes = stops refl
+tells_check false word place w stops passes = passes refl
 
 pub tells_last :
     {answer : List ℕ} (test : Bool) (word : Word) (place : ℕ) → (test ≡ true → answer ≡ refused_text word place) →
     (test ≡ false → NoRefusal answer) → Tells (refuse test word place) answer
-unfolding refuse
-tells_last true word place refused accepted = refused refl
-tells_last false word place refused accepted = accepted refl
+tells_last true word place stops passes = stops refl
+tells_last false word place stops passes = passes refl
 
 -- an answer that refuses something tells a verdict with that number
 pub tells_number :
     (v : Verdict) (answer : List ℕ) (number : ℕ) → Tells v answer → refusal_in answer ≡ number → 1 ≤ number →
-    (word : Word) × (place : ℕ) × (v ≡ Refused word place) × (refusal_number word ≡ number)
-tells_number Accepted answer number h e some = no_way (omega (arith, no_number h))
-tells_number (Refused word place) answer number h e some = (word, place, refl, sym (number_in word place) ∙ ap refusal_in (sym h) ∙ e)
+    (word : Word) × (place : ℕ) × (v ≡ refused word place) × (refusal_number word ≡ number)
+tells_number (Ok _) answer number h e some = no_way (omega (arith, no_number h))
+tells_number (Err refusal) answer number h e some =
+    (refusal.word, refusal.place, refl, sym (number_in refusal.word refusal.place) ∙ ap refusal_in (sym h) ∙ e)

@@ -5,10 +5,9 @@ pub mod first_line;
 pub mod printing;
 pub mod splitting;
 
-// The first line: as it must be or not, E and B, and where the text starts.
+// A first line as it must be: E and B, and where the text starts.
 #[derive(Clone, Copy)]
 pub struct Command {
-    pub fine: bool,
     pub percent: u32,
     pub budget: u32,
     pub next: usize,
@@ -21,6 +20,7 @@ pub const INPUT_ROOM: usize = 65601;
 pub const OUTPUT_ROOM: usize = 65536;
 
 // What the program prints: the first len bytes of its output.
+// Kept: an array and a length, as nothing is allocated (docs/DECISIONS.md).
 #[derive(Clone, Copy)]
 pub struct Printed {
     pub bytes: [u8; OUTPUT_ROOM],

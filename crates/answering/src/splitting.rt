@@ -7,18 +7,18 @@ ghost use Rattle.answering.specs.Answer.{gives_split, printed_as, line_text, fig
 
 use crate::first_line::command_of;
 use model::limits::{LIST_ROOM, PART_ROOM};
-use model::{CapAnswer, RunAnswer, Search, ShowAnswer, Verdict, Word};
+use model::{Capped, Refusal, Search, Shown, Word};
 use pattern::cap::cap_from_percent;
-use state::holding::complete_number;
-use texts::ReadAnswer;
+use texts::TextRead;
 use texts::read::read;
+use writing::Figures;
 use writing::write::lines::{put_none, put_refused};
 use writing::write::write;
-use writing::{Figures, WriteAnswer};
 
 // The figures of a search with a split to show.
-fn figures_of(search: Search, rest: u64, volume: u64, floor: u64) -> Figures
-    ensures { result ≡ figures_of search rest volume floor }
+#[tactic(auto, using(scanning::proofs::Joins::joins), unfolding(crate::specs::Answer::figures_of, model::specs::Calls::complete_number))]
+fn figures_of(search: &Search, rest: u64, volume: u64, floor: u64) -> Figures
+    ensures { result ≡ figures_of search.now rest volume floor }
 {
     Figures {
         volume,
@@ -27,127 +27,82 @@ fn figures_of(search: Search, rest: u64, volume: u64, floor: u64) -> Figures
         rest,
         tries: search.tries,
         floor,
-        complete: complete_number(search.complete),
+        complete: u64::from(search.complete),
     }
 }
 
-// Writes a split as a text.
-fn put_split(
-    m: u64,
-    n: u64,
-    nonzeros: u64,
-    list: &[u8],
-    parts: &[u8],
-    figures: Figures,
-    out: &mut [u8],
-) -> usize
-    ensures { Puts out.old 0 (printed_as (gives_split m n nonzeros list.now parts.now figures) out.old) out.new result }
+// Writes a split of the pattern of a text as a text.
+fn put_split(text: TextRead, list: &[u8], parts: &[u8], figures: Figures, out: &mut [u8]) -> usize
+    ensures { Puts out.old 0 (printed_as (gives_split text.m text.n text.nonzeros list.now parts.now figures) out.old) out.new result }
 {
-    let written = write(m, n, nonzeros, list, parts, figures, out);
-    match written {
-        WriteAnswer::Written(len) => len as usize,
-        WriteAnswer::Refused(word, place) => put_refused(out, word, place),
+    match write(text.m, text.n, text.nonzeros, list, parts, figures, out) {
+        Ok(len) => len as usize,
+        Err(refusal) => put_refused(out, refusal.word, refusal.place),
     }
 }
 
 // Writes the line of an answer without a split.
-fn put_line(shown: ShowAnswer, cap0: u64, cap1: u64, rest: u64, tries: u64, out: &mut [u8]) -> usize
-    ensures { Puts out.old 0 (line_text shown cap0 cap1 rest tries) out.new result }
+#[tactic(auto, using(writing::proofs::Puttings::puts_none), unfolding(crate::specs::Answer::line_text))]
+fn put_line(shown: Result<Shown, Refusal>, search: &Search, rest: u64, out: &mut [u8]) -> usize
+    ensures { Puts out.old 0 (line_text shown search.now.cap0 search.now.cap1 rest search.now.tries) out.new result }
 {
     match shown {
-        ShowAnswer::Split {
-            volume: _,
-            floor: _,
-        } => 0,
-        ShowAnswer::NoneYet { floor } => put_none(out, cap0, cap1, rest, tries, floor),
-        ShowAnswer::Refused(word, place) => put_refused(out, word, place),
+        Ok(Shown::Split { .. }) => 0,
+        Ok(Shown::NoneYet { floor }) => {
+            put_none(out, search.cap0, search.cap1, rest, search.tries, floor)
+        }
+        Err(refusal) => put_refused(out, refusal.word, refusal.place),
     }
 }
 
 // Shows a search and prints what it shows: the split, or "none yet".
-fn put_search(
-    search: Search,
-    rest: u64,
-    m: u64,
-    n: u64,
-    nonzeros: u64,
-    list: &[u8],
-    out: &mut [u8],
-) -> usize
-    ensures { Puts out.old 0 (printed_as (search_answer rest m n nonzeros list.now search) out.old) out.new result }
+fn put_search(search: Search, rest: u64, text: TextRead, list: &[u8], out: &mut [u8]) -> usize
+    ensures { Puts out.old 0 (printed_as (search_answer rest text.m text.n text.nonzeros list.now search) out.old) out.new result }
 {
     let mut parts = [0u8; PART_ROOM];
-    let shown = search::show(search, m, n, nonzeros, list, &mut parts);
-    let ShowAnswer::Split { volume, floor } = shown else {
-        return put_line(shown, search.cap0, search.cap1, rest, search.tries, out);
+    let shown = search::show(search, text.m, text.n, text.nonzeros, list, &mut parts);
+    let Ok(Shown::Split { volume, floor }) = shown else {
+        return put_line(shown, &search, rest, out);
     };
-    let figures = figures_of(search, rest, volume, floor);
-    put_split(m, n, nonzeros, list, &parts, figures, out)
+    let figures = figures_of(&search, rest, volume, floor);
+    put_split(text, list, &parts, figures, out)
 }
 
 // Runs a search and prints what it shows.
 fn put_run(
     search: Search,
     rest: u64,
-    m: u64,
-    n: u64,
-    nonzeros: u64,
+    text: TextRead,
     list: &[u8],
     budget: u64,
     out: &mut [u8],
 ) -> usize
-    ensures { Puts out.old 0 (printed_as (ran_answer rest m n nonzeros list.now (run_call search m n nonzeros list.now budget)) out.old) out.new result }
+    ensures { Puts out.old 0 (printed_as (ran_answer rest text.m text.n text.nonzeros list.now (run_call search text.m text.n text.nonzeros list.now budget)) out.old) out.new result }
 {
-    let ran = search::run(search, m, n, nonzeros, list, budget);
-    let answer = ran.answer;
-    let after = ran.search;
-    match answer {
-        RunAnswer::Complete { looks: _ } => put_search(after, rest, m, n, nonzeros, list, out),
-        RunAnswer::Stopped { looks: _ } => put_search(after, rest, m, n, nonzeros, list, out),
-        RunAnswer::Refused(word, place) => put_refused(out, word, place),
+    let ran = search::run(search, text.m, text.n, text.nonzeros, list, budget);
+    match ran.answer {
+        Ok(_) => put_search(ran.search, rest, text, list, out),
+        Err(refusal) => put_refused(out, refusal.word, refusal.place),
     }
 }
 
 // Opens a search with this cap for both parts, runs it and prints what it shows.
-fn put_opening(
-    m: u64,
-    n: u64,
-    nonzeros: u64,
-    list: &[u8],
-    cap: u64,
-    rest: u64,
-    budget: u64,
-    out: &mut [u8],
-) -> usize
-    ensures { Puts out.old 0 (printed_as (opened_answer rest m n nonzeros list.now (open_call m n nonzeros list.now (both_caps cap)) budget) out.old) out.new result }
+fn put_opening(text: TextRead, list: &[u8], capped: Capped, budget: u64, out: &mut [u8]) -> usize
+    ensures { Puts out.old 0 (printed_as (opened_answer capped.rest text.m text.n text.nonzeros list.now (open_call text.m text.n text.nonzeros list.now (both_caps capped.cap)) budget) out.old) out.new result }
 {
-    let opened = search::open(m, n, nonzeros, list, cap, cap);
-    let verdict = opened.verdict;
-    let fresh = opened.search;
-    match verdict {
-        Verdict::Accepted => put_run(fresh, rest, m, n, nonzeros, list, budget, out),
-        Verdict::Refused(word, place) => put_refused(out, word, place),
+    match search::open(text.m, text.n, text.nonzeros, list, capped.cap, capped.cap) {
+        Ok(fresh) => put_run(fresh, capped.rest, text, list, budget, out),
+        Err(refusal) => put_refused(out, refusal.word, refusal.place),
     }
 }
 
-// Splits a pattern under a percentage and prints the answer.
-fn put_pattern(
-    m: u64,
-    n: u64,
-    nonzeros: u64,
-    list: &[u8],
-    percent: u64,
-    budget: u64,
-    out: &mut [u8],
-) -> usize
-    ensures { Puts out.old 0 (printed_as (after_cap (cap_call nonzeros percent) m n nonzeros list.now budget) out.old) out.new result }
+// Splits the pattern of a text under a percentage and prints the answer.
+fn put_pattern(text: TextRead, list: &[u8], percent: u64, budget: u64, out: &mut [u8]) -> usize
+    ensures { Puts out.old 0 (printed_as (after_cap (cap_call text.nonzeros percent) text.m text.n text.nonzeros list.now budget) out.old) out.new result }
 {
-    let capped = cap_from_percent(nonzeros, percent);
-    match capped {
-        CapAnswer::Capped { cap, rest } => {
-            put_opening(m, n, nonzeros, list, cap, rest, budget, out)
-        }
-        CapAnswer::Refused(word, place) => put_refused(out, word, place),
+    match cap_from_percent(text.nonzeros, percent) {
+        Ok(capped) => put_opening(text, list, capped, budget, out),
+        Err(refusal) => put_refused(out, refusal.word, refusal.place),
     }
 }
 
@@ -157,31 +112,25 @@ fn put_text(text: &[u8], percent: u64, budget: u64, out: &mut [u8]) -> usize
 {
     let mut list = [0u8; LIST_ROOM];
     let mut parts = [0u8; PART_ROOM];
-    let read = read(text, &mut list, &mut parts);
-    match read {
-        ReadAnswer::Read {
-            m,
-            n,
-            nonzeros,
-            integer: _,
-        } => put_pattern(m, n, nonzeros, &list, percent, budget, out),
-        ReadAnswer::Refused(word, place) => put_refused(out, word, place),
+    match read(text, &mut list, &mut parts) {
+        Ok(given) => put_pattern(given, &list, percent, budget, out),
+        Err(refusal) => put_refused(out, refusal.word, refusal.place),
     }
 }
 
-// Writes the answer to an input, and gives its length; what falls past the end of the output is left out.
+/// Writes the answer to an input, and gives its length; what falls past the end of the output is left out.
+#[tactic(auto, using(crate::proofs::FirstLine::command_room))]
 pub fn answer(input: &[u8], out: &mut [u8]) -> usize
     ensures { Puts out.old 0 (answer_text input.now out.old) out.new result }
 {
-    let command = command_of(input);
-    let next = command.next;
-    let len = input.len();
-    if !command.fine {
+    let Some(command) = command_of(input) else {
         return put_refused(out, Word::EntryForm, 0);
-    }
-    if len < next {
-        return put_refused(out, Word::EntryForm, 0);
-    }
-    let text = &input[next..len];
-    put_text(text, command.percent as u64, command.budget as u64, out)
+    };
+    let text = &input[command.next..];
+    put_text(
+        text,
+        u64::from(command.percent),
+        u64::from(command.budget),
+        out,
+    )
 }

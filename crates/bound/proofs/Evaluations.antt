@@ -12,8 +12,8 @@ use borrow.Author.Tests.{ltb-true, eqb-true}
 use Rattle.counting.specs.Tests.{◌and◌}
 use Rattle.counting.proofs.Joined.{or_cases, and_left}
 use Rattle.trail.specs.Trail.{mark_room}
+use Rattle.model.specs.Refusal.{accepted}
 use Rattle.model.specs.Limits.{line_room}
-use Rattle.model.specs.declared.Verdict.TheVariants.{Accepted}
 use Rattle.model.specs.Pattern.{pattern_of, lines, row_in, column_in}
 use Rattle.model.specs.Marking.{place, marking}
 use Rattle.model.specs.State.{array_of}
@@ -78,8 +78,8 @@ rises_rows list t h =
     h)
 
 pub accepted_listed :
-    (m n nonzeros : ℕ) (list starts : List ℕ) → list_verdict m n nonzeros list ≡ Accepted →
-    ((m n i : ℕ) → i ≤ side_room → get_or starts i 0 ≡ row_start (pattern_of m n nonzeros list) i) →
+    (m n nonzeros : ℕ) (list starts : List ℕ) → list_verdict m n nonzeros list ≡ accepted →
+    ((i : ℕ) → i ≤ side_room → get_or starts i 0 ≡ row_start (pattern_of m n nonzeros list) i) →
     Listed m n nonzeros list starts
 accepted_listed m n nonzeros list starts h s =
     let fine = list_accepted m n nonzeros list h in
@@ -90,5 +90,5 @@ accepted_listed m n nonzeros list starts h s =
       inside = accepted_inside m n nonzeros list h;
       rising = λ t b. rises_rows list t (fine.rising (suc t) b);
       thin = line_thin m n nonzeros list h;
-      started = s m n;
+      started = s;
     }

@@ -7,6 +7,7 @@ use Prim.Native.Nat.{ℕ, ◌≤◌, ◌+◌}
 use native.Mathlib.Nat.{not-suc-le-zero}
 use native.Mathlib.Omega.{arith}
 use borrow.Author.Tests.{ltb-true, ltb-false, leb-true, leb-false, eqb-true, eqb-false}
+use Rattle.std.specs.Int.{from_bool}
 use Rattle.counting.specs.Tests.{◌and◌, ◌or◌, pick, bit}
 
 -- anything follows from an order that fails
@@ -35,6 +36,12 @@ passes false h = absurd (h refl)
 pub fails : (b : Bool) → (b ≡ true → ⊥) → b ≡ false
 fails true h = absurd (h refl)
 fails false h = refl
+
+-- a test as a number, as the language converts it
+pub from_bool_is : (b : Bool) → from_bool b ≡ bit b
+unfolding bit
+from_bool_is true = refl
+from_bool_is false = refl
 
 -- two tests that imply each other are equal
 pub both_ways : (a b : Bool) → (a ≡ true → b ≡ true) → (b ≡ true → a ≡ true) → a ≡ b

@@ -4,7 +4,6 @@
 pub mod laying;
 pub mod ordering;
 pub mod starting;
-mod storing;
 
 // Room for the two lines of every nonzero.
 pub const CROSS_ROOM: usize = 8000;

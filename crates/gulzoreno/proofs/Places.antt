@@ -1,8 +1,8 @@
 -- The place of a refusal of a list, an opening or a showing is a nonzero number or 0, and so at most the limit on nonzeros.
 -- Assumes nothing.
+use Rattle.std.specs.Prelude.{Ok, Err}
 use mathlib.Core.Bool.{Bool, true, false, not}
 use mathlib.Core.List.{List}
-use mathlib.Core.Option.{Option, some, none}
 use mathlib.Core.Path.{◌≡◌, refl}
 use Prim.Native.Nat.{ℕ, zero, suc, ◌+◌, ◌*◌, ◌≤◌}
 use native.Mathlib.Omega.{arith}
@@ -10,43 +10,39 @@ use lib.Dec.{ltb}
 use lib.ListN.{length}
 use Rattle.counting.specs.Tests.{◌or◌}
 use Rattle.counting.proofs.Joined.{never}
+use Rattle.model.specs.declared.Refusal.{Refusal}
 use Rattle.model.specs.declared.Word.{Word}
 use Rattle.model.specs.declared.Word.TheVariants.{TooBig, OffMatrix, ShortBuffer, Order, Cap, NoSplit, Budget, State, SplitNumber}
-use Rattle.model.specs.declared.Verdict.{Verdict}
-use Rattle.model.specs.declared.Verdict.TheVariants.{Accepted, Refused}
 use Rattle.model.specs.declared.Caps.{Caps}
 use Rattle.model.specs.declared.Search.{Search}
-use Rattle.model.specs.declared.ShowAnswer.TheVariants as show-answer
 use Rattle.model.specs.Limits.{nonzero_limit, budget_limit}
-use Rattle.model.specs.Refusal.{refuse, ◌then◌, each_verdict}
+use Rattle.model.specs.Refusal.{Verdict, accepted, refuse, ◌then◌, each_verdict}
 use Rattle.model.specs.Pattern.{entry_bytes, pattern_of}
 use Rattle.model.specs.Split.{caps_outside}
 use Rattle.model.specs.Walk.{Record, rules_of}
 use Rattle.model.specs.State.{record_of, state_fine}
-use Rattle.model.specs.Calls.{sizes_verdict, rises, split_number, off_matrix, entry_verdict, entries_verdict, list_verdict, open_verdict, show_verdict, shown, shown_after, show_call}
-use Rattle.model.proofs.Theorems.Checks.{then-first, nonzeros_small}
+use Rattle.model.specs.Calls.{sizes_verdict, rises, split_number, off_matrix, entry_verdict, entries_verdict, list_verdict, open_verdict, show_verdict, shown_after, show_call}
+use Rattle.model.proofs.Theorems.Checks.{then-first, refused_by, nonzeros_small}
 use Rattle.gulzoreno.specs.Figures.{figures_bytes}
 use Rattle.gulzoreno.specs.Host.{output_verdict, host_verdict}
 
 -- where this verdict refuses, the place is at most a limit
 abbrev PlaceTo : ℕ → Verdict → Type 0
-PlaceTo limit Accepted = Unit {0}
-PlaceTo limit (Refused word place) = place ≤ limit
+PlaceTo limit (Ok _) = Unit {0}
+PlaceTo limit (Err refusal) = refusal.place ≤ limit
 
-place_to : (limit : ℕ) (v : Verdict) {word : Word} {place : ℕ} → PlaceTo limit v → v ≡ Refused word place → place ≤ limit
-place_to limit Accepted h e = never (cc)
-place_to limit (Refused word place) {place = other} h e = let z : place ≡ other = cc in omega arith
+place_to : (limit : ℕ) (v : Verdict) {refusal : Refusal} → PlaceTo limit v → v ≡ Err refusal → refusal.place ≤ limit
+place_to limit (Ok _) h e = never (cc)
+place_to limit (Err other) {refusal = refusal} h e = let same : refusal ≡ other = cc in rw same h
 
 -- one check, and a check after another
 refuse_to : (limit : ℕ) (test : Bool) (word : Word) (place : ℕ) → place ≤ limit → PlaceTo limit (refuse test word place)
-unfolding refuse
 refuse_to limit true word place h = h
 refuse_to limit false word place h = tt
 
-then_to : (limit : ℕ) (v w : Verdict) → PlaceTo limit v → (v ≡ Accepted → PlaceTo limit w) → PlaceTo limit (v then w)
-unfolding ◌then◌
-then_to limit Accepted w a b = b refl
-then_to limit (Refused word place) w a b = a
+then_to : (limit : ℕ) (v w : Verdict) → PlaceTo limit v → (v ≡ accepted → PlaceTo limit w) → PlaceTo limit (v then w)
+then_to limit (Ok _) w a b = b refl
+then_to limit (Err refusal) w a b = a
 
 module _ (m n : ℕ) (list : List ℕ) where
   entry_to : (t : ℕ) → PlaceTo t (entry_verdict m n list t)
@@ -76,8 +72,8 @@ module _ (m n : ℕ) (list : List ℕ) where
       (λ e. raised_to t limit (entry_verdict m n list t) (omega arith) (entry_to t))
     where
       raised_to : (a b : ℕ) (v : Verdict) → a ≤ b → PlaceTo a v → PlaceTo b v
-      raised_to a b Accepted l p = tt
-      raised_to a b (Refused word place) l p = omega arith
+      raised_to a b (Ok _) l p = tt
+      raised_to a b (Err refusal) l p = omega arith
 
 module _ (m n nonzeros : ℕ) (list : List ℕ) where
   sizes_to : PlaceTo nonzero_limit (sizes_verdict m n nonzeros)
@@ -116,8 +112,8 @@ module _ (m n nonzeros : ℕ) (list : List ℕ) where
       (λ e. refuse_to nonzero_limit (ltb (length parts) nonzeros or ltb (length figures) figures_bytes) ShortBuffer 0 (omega arith))
 
   pub host_place :
-      (caps : Caps) (budget : ℕ) (parts figures : List ℕ) {word : Word} {place : ℕ} →
-      host_verdict m n nonzeros list caps budget parts figures ≡ Refused word place → place ≤ nonzero_limit
+      (caps : Caps) (budget : ℕ) (parts figures : List ℕ) {refusal : Refusal} →
+      host_verdict m n nonzeros list caps budget parts figures ≡ Err refusal → refusal.place ≤ nonzero_limit
   unfolding host_verdict
   host_place caps budget parts figures e =
       place_to
@@ -138,25 +134,14 @@ module _ (m n nonzeros : ℕ) (list : List ℕ) where
       (then_to nonzero_limit (list_verdict m n nonzeros list) (refuse (not fine) State 0) list_to (λ e. refuse_to nonzero_limit (not fine) State 0 (omega arith)))
       (λ e. refuse_to nonzero_limit (ltb (length parts) nonzeros) ShortBuffer 0 (omega arith))
 
-  -- an accepted showing answers no refusal
-  given :
-      (caps : Caps) (low : ℕ) (best : Option (List ℕ)) {word : Word} {place : ℕ} →
-      shown (pattern_of m n nonzeros list) caps best low ≡ show-answer.Refused word place → place ≤ nonzero_limit
-  unfolding shown
-  given caps low none e = never (cc)
-  given caps low (some best) e = never (cc)
-
-  after :
-      (s : Search) (v : Verdict) {word : Word} {place : ℕ} → PlaceTo nonzero_limit v →
-      shown_after v (record_of s) (pattern_of m n nonzeros list) ≡ show-answer.Refused word place → place ≤ nonzero_limit
-  unfolding shown_after
-  after s Accepted h e = given _ _ (record_of s).best e
-  after s (Refused word place) {place = other} h e = let z : place ≡ other = cc in omega arith
-
   -- a refused showing
   pub show-place :
-      (s : Search) (parts : List ℕ) {word : Word} {place : ℕ} →
-      show_call s m n nonzeros list parts ≡ show-answer.Refused word place → place ≤ nonzero_limit
-  unfolding show_call
+      (s : Search) (parts : List ℕ) {refusal : Refusal} →
+      show_call s m n nonzeros list parts ≡ Err refusal → refusal.place ≤ nonzero_limit
+  unfolding show_call shown_after
   show-place s parts e =
-      after s (show_verdict (record_of s) m n nonzeros list parts) (show_to (record_of s) parts) e
+      place_to
+      nonzero_limit
+      (show_verdict (record_of s) m n nonzeros list parts)
+      (show_to (record_of s) parts)
+      (refused_by _ _ e)

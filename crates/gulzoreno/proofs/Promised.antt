@@ -9,18 +9,18 @@ use lib.ListN.{length}
 use Rattle.counting.specs.Tests.{bit}
 use Rattle.counting.proofs.Joined.{no_way}
 use Rattle.counting.proofs.Counted.{count_most}
-use Rattle.model.specs.declared.Verdict.{Verdict}
-use Rattle.model.specs.declared.Verdict.TheVariants.{Accepted, Refused}
+use Rattle.std.specs.Prelude.{Result, Ok, Err}
+use Rattle.model.specs.declared.Refusal.{Refusal}
 use Rattle.model.specs.declared.Caps.{Caps}
-use Rattle.model.specs.declared.ShowAnswer.{ShowAnswer}
-use Rattle.model.specs.declared.ShowAnswer.TheVariants as show-answer
+use Rattle.model.specs.declared.Shown.{Shown}
+use Rattle.model.specs.declared.Shown.TheVariants as showing
 use Rattle.model.specs.Limits.{line_limit}
-use Rattle.model.specs.Refusal.{refusal_code, reply_code, given, none_yet, refusal}
+use Rattle.model.specs.Refusal.{Verdict, accepted, refusal_code, reply_code}
 use Rattle.model.specs.Pattern.{Pattern, pattern_of, lines}
 use Rattle.model.specs.Split.{Split, Meets, volume, is_cut}
 use Rattle.model.specs.Walk.{Record, walked}
 use Rattle.model.specs.State.{search_of}
-use Rattle.model.specs.Calls.{complete_number, show_call, show_code, show_reply}
+use Rattle.model.specs.Calls.{complete_number, show_call, show_code, shows_reply}
 use Rattle.model.proofs.Split.Volume.{volume-is-cuts}
 use Rattle.model.proofs.Theorems.Accepted.{list_accepted}
 use Rattle.pattern.specs.Splits.{split_of}
@@ -33,17 +33,17 @@ use Rattle.gulzoreno.proofs.Walked.{listed, figures_long, at_end, told, code_is,
 use Rattle.gulzoreno.proofs.Reading as reading
 
 -- answer 0 is no refusal
-code_accepted : (v : Verdict) (a : ShowAnswer) → host_code_after v a ≡ 0 → v ≡ Accepted
-unfolding host_code_after refusal_code reply_code refusal
-code_accepted Accepted a h = refl
-code_accepted (Refused word place) a h = no_way (omega (arith, (number_range word).0))
+code_accepted : (v : Verdict) (a : Result Shown Refusal) → host_code_after v a ≡ 0 → v ≡ accepted
+unfolding host_code_after refusal_code reply_code
+code_accepted (Ok _) a h = refl
+code_accepted (Err refusal) a h = no_way (omega (arith, (number_range refusal.word).0))
 
 -- and not "none yet"
-code_split : (a : ShowAnswer) → show_code a ≡ 0 → (shown low : ℕ) × (a ≡ show-answer.Split shown low)
-unfolding show_code show_reply reply_code given none_yet refusal
-code_split (show-answer.Split shown low) h = (shown, low, refl)
-code_split (show-answer.NoneYet low) h = no_way (omega arith)
-code_split (show-answer.Refused word place) h = no_way (omega (arith, (number_range word).0))
+code_split : (a : Result Shown Refusal) → show_code a ≡ 0 → (shown low : ℕ) × (a ≡ Ok (showing.Split shown low))
+unfolding show_code reply_code shows_reply
+code_split (Ok (showing.Split shown low)) h = (shown, low, refl)
+code_split (Ok (showing.NoneYet low)) h = no_way (omega arith)
+code_split (Err refusal) h = no_way (omega (arith, (number_range refusal.word).0))
 
 -- complete as a number
 complete_so : (complete : Bool) → complete_number complete ≡ 1 → complete ≡ true
@@ -64,20 +64,20 @@ module _
   abbrev r : Record
   r = walked P caps budget
 
-  accepted : host_verdict m n nonzeros list caps budget parts figures ≡ Accepted
+  passes : host_verdict m n nonzeros list caps budget parts figures ≡ accepted
   unfolding bipartition_code
-  accepted =
+  passes =
       code_accepted
       (host_verdict m n nonzeros list caps budget parts figures)
       (show_call (host_search m n nonzeros list caps budget) m n nonzeros list parts)
       zero-answered
 
   -- the split answered
-  abbrev Shown : ShowAnswer
-  Shown = show_call (host_search m n nonzeros list caps budget) m n nonzeros list parts
+  abbrev Told : Result Shown Refusal
+  Told = show_call (host_search m n nonzeros list caps budget) m n nonzeros list parts
 
-  found : (shown low : ℕ) × (Shown ≡ show-answer.Split shown low)
-  found = code_split Shown (sym (code_is m n nonzeros list caps budget parts figures accepted) ∙ zero-answered)
+  found : (shown low : ℕ) × (Told ≡ Ok (showing.Split shown low))
+  found = code_split Told (sym (code_is m n nonzeros list caps budget parts figures passes) ∙ zero-answered)
 
   abbrev shown : ℕ
   shown = found.0
@@ -90,21 +90,21 @@ module _
       SplitAnswered P caps r parts shown low (bipartition_parts m n nonzeros list caps budget parts figures)
   split =
       rw
-      (parts_are m n nonzeros list caps budget parts figures accepted)
-      ((told m n nonzeros list caps budget parts figures accepted).split shown low found.2)
+      (parts_are m n nonzeros list caps budget parts figures passes)
+      ((told m n nonzeros list caps budget parts figures passes).split shown low found.2)
 
   figures-written :
       bipartition_figures m n nonzeros list caps budget parts figures ≡ with_figures shown r.tries low r.complete figures
   unfolding figures_shown search_of
   figures-written =
-      figures_are m n nonzeros list caps budget parts figures accepted
-      ∙ ap (λ (a : ShowAnswer). figures_shown a (search_of r) figures) found.2
+      figures_are m n nonzeros list caps budget parts figures passes
+      ∙ ap (λ (a : Result Shown Refusal). figures_shown a (search_of r) figures) found.2
 
   -- the numbers are small
   few : lines P ≤ 2 * line_limit
   unfolding lines pattern_of
   few =
-      let fine = list_accepted m n nonzeros list (listed m n nonzeros list caps budget parts figures accepted) in
+      let fine = list_accepted m n nonzeros list (listed m n nonzeros list caps budget parts figures passes) in
       omega (arith, fine.rows_to, fine.columns_to)
 
   shown_fits : shown < 256 ^ 8
@@ -112,7 +112,7 @@ module _
       omega (arith, split.volume_is, volume_most P (split_of (bipartition_parts m n nonzeros list caps budget parts figures)), few)
 
   tries_fit : r.tries < 256 ^ 8
-  tries_fit = omega (arith, (at_end m n nonzeros list caps budget parts figures accepted).tries-limit)
+  tries_fit = omega (arith, (at_end m n nonzeros list caps budget parts figures passes).tries-limit)
 
   low_fits : low < 256 ^ 8
   low_fits =
@@ -128,7 +128,7 @@ module _
   F = bipartition_figures m n nonzeros list caps budget parts figures
 
   long : figures_bytes ≤ length figures
-  long = figures_long m n nonzeros list caps budget parts figures accepted
+  long = figures_long m n nonzeros list caps budget parts figures passes
 
   volume_is : figure_in 0 F ≡ shown
   volume_is =

@@ -3,26 +3,26 @@
 use mathlib.Core.List.{List}
 use mathlib.Core.Path.{◌≡◌, refl}
 use Prim.Native.Nat.{ℕ}
-use Rattle.model.specs.declared.Verdict.{Verdict}
-use Rattle.model.specs.declared.Verdict.TheVariants.{Accepted, Refused}
+use Rattle.std.specs.Prelude.{Result, Ok, Err}
+use Rattle.model.specs.declared.Refusal.{Refusal}
 use Rattle.model.specs.declared.Caps.{Caps}
 use Rattle.model.specs.declared.Search.{Search}
-use Rattle.model.specs.declared.ShowAnswer.{ShowAnswer}
-use Rattle.model.specs.declared.ShowAnswer.TheVariants as show-answer
-use Rattle.model.specs.Refusal.{reply_code, given}
-use Rattle.model.specs.Calls.{show_call, show_parts, show_reply, show_code}
+use Rattle.model.specs.declared.Shown.{Shown}
+use Rattle.model.specs.declared.Shown.TheVariants as showing
+use Rattle.model.specs.Refusal.{Verdict, reply_code}
+use Rattle.model.specs.Calls.{show_call, show_parts, shows_reply, show_code}
 use Rattle.model.proofs.Theorems.Refusals.{show_refused, show-none}
 use Rattle.gulzoreno.specs.Host.{host_verdict, host_search, host_code_after, host_parts_after, figures_shown, host_figures_after, bipartition_code, bipartition_parts, bipartition_figures}
 
 module _ (s : Search) (m n nonzeros : ℕ) (list parts figures : List ℕ) where
   -- by what is shown
   by_answer :
-      (a : ShowAnswer) → show_call s m n nonzeros list parts ≡ a → (show_code a ≡ 0 → ⊥) →
+      (a : Result Shown Refusal) → show_call s m n nonzeros list parts ≡ a → (show_code a ≡ 0 → ⊥) →
       (show_parts s m n nonzeros list parts ≡ parts) × (figures_shown a s figures ≡ figures)
-  unfolding show_code reply_code show_reply given figures_shown
-  by_answer (show-answer.Split volume floor) e h = absurd (h refl)
-  by_answer (show-answer.NoneYet floor) e h = (show-none s m n nonzeros list parts floor e, refl)
-  by_answer (show-answer.Refused word place) e h = ((show_refused s m n nonzeros list parts word place e).1, refl)
+  unfolding show_code reply_code shows_reply figures_shown
+  by_answer (Ok (showing.Split volume floor)) e h = absurd (h refl)
+  by_answer (Ok (showing.NoneYet floor)) e h = (show-none s m n nonzeros list parts floor e, refl)
+  by_answer (Err refusal) e h = ((show_refused s m n nonzeros list parts refusal.word refusal.place e).1, refl)
 
   -- by the checks before it
   by_verdict :
@@ -30,8 +30,8 @@ module _ (s : Search) (m n nonzeros : ℕ) (list parts figures : List ℕ) where
       (host_parts_after v (show_parts s m n nonzeros list parts) parts ≡ parts)
       × (host_figures_after v (show_call s m n nonzeros list parts) s figures ≡ figures)
   unfolding host_code_after host_parts_after host_figures_after
-  by_verdict Accepted h = by_answer (show_call s m n nonzeros list parts) refl h
-  by_verdict (Refused word place) h = (refl, refl)
+  by_verdict (Ok _) h = by_answer (show_call s m n nonzeros list parts) refl h
+  by_verdict (Err refusal) h = (refl, refl)
 
 pub bipartition_refused :
     (m n nonzeros : ℕ) (list : List ℕ) (caps : Caps) (budget : ℕ) (parts figures : List ℕ) →

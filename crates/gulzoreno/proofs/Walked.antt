@@ -10,14 +10,14 @@ use lib.ListN.{length}
 use borrow.Author.Tests.{ltb-false}
 use Rattle.counting.specs.Tests.{◌or◌}
 use Rattle.counting.proofs.Joined.{or_fails_right}
+use Rattle.std.specs.Prelude.{Result}
+use Rattle.model.specs.declared.Refusal.{Refusal}
 use Rattle.model.specs.declared.Word.TheVariants.{ShortBuffer, Budget}
-use Rattle.model.specs.declared.Verdict.{Verdict}
-use Rattle.model.specs.declared.Verdict.TheVariants.{Accepted}
 use Rattle.model.specs.declared.Caps.{Caps}
 use Rattle.model.specs.declared.Search.{Search}
-use Rattle.model.specs.declared.ShowAnswer.{ShowAnswer}
+use Rattle.model.specs.declared.Shown.{Shown}
 use Rattle.model.specs.Limits.{budget_limit}
-use Rattle.model.specs.Refusal.{refuse}
+use Rattle.model.specs.Refusal.{Verdict, accepted, refuse}
 use Rattle.model.specs.Pattern.{Pattern, pattern_of}
 use Rattle.model.specs.Walk.{Record, walked}
 use Rattle.model.specs.State.{search_of}
@@ -31,7 +31,7 @@ use Rattle.gulzoreno.specs.Host.{output_verdict, host_verdict, host_search, host
 
 module _
     (m n nonzeros : ℕ) (list : List ℕ) (caps : Caps) (budget : ℕ) (parts figures : List ℕ)
-    (accepted : host_verdict m n nonzeros list caps budget parts figures ≡ Accepted) where
+    (passes : host_verdict m n nonzeros list caps budget parts figures ≡ accepted) where
   -- the pattern, and the walk's record after some tries
   abbrev P : Pattern
   P = pattern_of m n nonzeros list
@@ -40,16 +40,16 @@ module _
   after tries = walked P caps tries
 
   -- what each check says
-  opens : open_verdict m n nonzeros list caps ≡ Accepted
+  opens : open_verdict m n nonzeros list caps ≡ accepted
   unfolding host_verdict
-  opens = then-first (open_verdict m n nonzeros list caps) (output_verdict nonzeros budget parts figures) accepted
+  opens = then-first (open_verdict m n nonzeros list caps) (output_verdict nonzeros budget parts figures) passes
 
-  pub listed : list_verdict m n nonzeros list ≡ Accepted
+  pub listed : list_verdict m n nonzeros list ≡ accepted
   listed = (open_accepted m n nonzeros list caps opens).listed
 
-  output : output_verdict nonzeros budget parts figures ≡ Accepted
+  output : output_verdict nonzeros budget parts figures ≡ accepted
   unfolding host_verdict
-  output = then-second (open_verdict m n nonzeros list caps) (output_verdict nonzeros budget parts figures) accepted
+  output = then-second (open_verdict m n nonzeros list caps) (output_verdict nonzeros budget parts figures) passes
 
   within_budget : budget ≤ budget_limit
   unfolding output_verdict
@@ -76,29 +76,29 @@ module _
   unfolding host_search
   at_end = one-run.at_end m n nonzeros list caps budget opens within_budget
 
-  abbrev pub Shown : ShowAnswer
-  Shown = show_call (host_search m n nonzeros list caps budget) m n nonzeros list parts
+  abbrev pub Told : Result Shown Refusal
+  Told = show_call (host_search m n nonzeros list caps budget) m n nonzeros list parts
 
   abbrev pub Left : List ℕ
   Left = show_parts (host_search m n nonzeros list caps budget) m n nonzeros list parts
 
   pub told :
-      ShowAnswered P caps (after budget) (show_verdict (after budget) m n nonzeros list parts) parts Shown Left
+      ShowAnswered P caps (after budget) (show_verdict (after budget) m n nonzeros list parts) parts Told Left
   unfolding host_search
   told = one-run.told m n nonzeros list caps budget opens within_budget parts
 
   -- the answer, the parts and the figures are those of this showing
-  pub code_is : bipartition_code m n nonzeros list caps budget parts figures ≡ show_code Shown
+  pub code_is : bipartition_code m n nonzeros list caps budget parts figures ≡ show_code Told
   unfolding bipartition_code host_code_after
-  code_is = ap (λ (v : Verdict). host_code_after v Shown) accepted
+  code_is = ap (λ (v : Verdict). host_code_after v Told) passes
 
   pub parts_are : bipartition_parts m n nonzeros list caps budget parts figures ≡ Left
   unfolding bipartition_parts host_parts_after
-  parts_are = ap (λ (v : Verdict). host_parts_after v Left parts) accepted
+  parts_are = ap (λ (v : Verdict). host_parts_after v Left parts) passes
 
   pub figures_are :
-      bipartition_figures m n nonzeros list caps budget parts figures ≡ figures_shown Shown (search_of (after budget)) figures
+      bipartition_figures m n nonzeros list caps budget parts figures ≡ figures_shown Told (search_of (after budget)) figures
   unfolding bipartition_figures host_figures_after
   figures_are =
-      ap (λ (v : Verdict). host_figures_after v Shown (host_search m n nonzeros list caps budget) figures) accepted
-      ∙ ap (λ (s : Search). figures_shown Shown s figures) at_end.whole
+      ap (λ (v : Verdict). host_figures_after v Told (host_search m n nonzeros list caps budget) figures) passes
+      ∙ ap (λ (s : Search). figures_shown Told s figures) at_end.whole

@@ -5,29 +5,21 @@
 mod calling;
 mod lending;
 
-use pattern::reading::byte_at;
-use testing::Kind;
-use testing::cases::field_at;
+use input::read_full;
+use std::io;
+use testing::cases::{Cases, each_case};
 
-// One case, on a line of its own, and the place of the next. A line that is no call is passed over.
-fn case_at(cases: &[u8], at: usize) -> usize {
-    let word = field_at(cases, at, Kind::Text, &mut []);
-    match byte_at(cases, at) {
-        b'c' => calling::call(cases, word.next),
-        _ => word.next,
+// Answers a case, on a line of its own. A line that is no call is passed over.
+fn answer(rt: &impl Print, kind: u8, cases: &mut Cases<'_>) -> io::Result<()> {
+    match kind {
+        b'c' => calling::call(rt, cases),
+        _ => Ok(()),
     }
 }
 
 // Reads the cases, and answers each of them in turn.
-fn main() {
-    let mut cases = [0u8; 8192];
-    let len = io::read_full(0, &mut cases);
-    let mut at: usize = 0;
-    while at < len {
-        let next = case_at(&cases, at);
-        if next <= at {
-            return;
-        }
-        at = next;
-    }
+fn main(rt: HostRuntime) -> io::Result<()> {
+    let mut page = [0u8; 8192];
+    let len = read_full(&mut rt.reader(), &mut page)?;
+    each_case(&page, len, |kind, cases| answer(&rt, kind, cases))
 }

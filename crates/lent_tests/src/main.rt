@@ -6,59 +6,31 @@ mod lending;
 mod measuring;
 mod stepping;
 
+use input::read_full;
 use model::Search;
-use pattern::reading::byte_at;
-use testing::Kind;
-use testing::cases::field_at;
+use std::io;
+use testing::cases::{Cases, each_case};
 
-// The search that the cases go on with, and the place of the next case.
-#[derive(Clone, Copy)]
-pub struct Turn {
-    pub search: Search,
-    pub next: usize,
-}
-
-// A case that leaves the search as it is, by the first letter of its kind: the place of the next one.
-fn case_beside(cases: &[u8], letter: u8, at: usize, search: Search) -> usize {
-    match letter {
-        b'd' => {
-            stepping::damaged(search);
-            at
+// Answers a case by the first letter of its kind.
+fn answer(rt: &impl Print, kind: u8, cases: &mut Cases<'_>, search: &mut Search) -> io::Result<()> {
+    match kind {
+        b'd' => stepping::damaged(rt, search),
+        b'f' => {
+            *search = stepping::fresh();
+            Ok(())
         }
-        b'm' => measuring::measure_case(cases, at),
-        _ => at,
-    }
-}
-
-// Answers the case at a place, by the first letter of its kind.
-fn case_at(cases: &[u8], at: usize, search: Search) -> Turn {
-    let letter = byte_at(cases, at);
-    let kind = field_at(cases, at, Kind::Text, &mut []);
-    match letter {
-        b'f' => Turn {
-            search: stepping::fresh(),
-            next: kind.next,
-        },
-        b's' => stepping::step_case(cases, kind.next, search),
-        _ => Turn {
-            search,
-            next: case_beside(cases, letter, kind.next, search),
-        },
+        b'm' => measuring::measure_case(rt, cases),
+        b's' => stepping::step_case(rt, cases, search),
+        _ => Ok(()),
     }
 }
 
 // Reads the cases and answers each of them in turn.
-fn main() {
-    let mut cases = [0u8; 4096];
-    let len = io::read_full(0, &mut cases);
+fn main(rt: HostRuntime) -> io::Result<()> {
+    let mut page = [0u8; 4096];
+    let len = read_full(&mut rt.reader(), &mut page)?;
     let mut search = stepping::fresh();
-    let mut at: usize = 0;
-    while at < len {
-        let turn = case_at(&cases, at, search);
-        if turn.next <= at {
-            return;
-        }
-        search = turn.search;
-        at = turn.next;
-    }
+    each_case(&page, len, |kind, cases| {
+        answer(&rt, kind, cases, &mut search)
+    })
 }

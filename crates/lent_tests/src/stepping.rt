@@ -1,145 +1,108 @@
 // The history of a search: after each call the answers and the searches of both ways are compared.
-use crate::Turn;
-use crate::lending::lend;
+use crate::lending::{lend, run_beside};
 use model::limits::LIST_ROOM;
-use model::{Ran, RunAnswer, Search};
-use pattern::refusals::refusal_number;
-use testing::cases::{list_at, number_at};
-use testing::comparing::same_search;
-use testing::laying::first;
-use testing::saying::{say, say_field, say_number, say_run, say_which};
+use model::{Ran, Search};
+use std::io;
+use testing::cases::Cases;
+use testing::patterns::Pattern;
+use testing::saying::{say_field, say_run};
+use testing::searches::NO_SEARCH;
 use trail::MARK_ROOM;
 
-// A number for each kind of answer.
-fn number_of(answer: RunAnswer) -> u64 {
-    match answer {
-        RunAnswer::Complete { looks: _ } => 0,
-        RunAnswer::Stopped { looks: _ } => 100,
-        RunAnswer::Refused(word, _) => refusal_number(word),
-    }
-}
-
-// The place of a refusal.
-fn place_of(answer: RunAnswer) -> u64 {
-    match answer {
-        RunAnswer::Complete { looks: _ } => 0,
-        RunAnswer::Stopped { looks: _ } => 0,
-        RunAnswer::Refused(_, place) => place,
-    }
-}
-
-// The looks of a run that is not refused.
-fn looks_of(answer: RunAnswer) -> u64 {
-    match answer {
-        RunAnswer::Complete { looks } => looks,
-        RunAnswer::Stopped { looks } => looks,
-        RunAnswer::Refused(_, _) => 0,
-    }
-}
-
 // The answer and the tries of a run, and whether another one has the same answer and the same search.
-fn say_both(first: Ran, second: Ran) {
-    let answer = first.answer;
-    let other = second.answer;
-    let search = first.search;
-    let beside = second.search;
-    say_run(answer);
-    say_number(b" tries ", search.tries);
-    let kinds = number_of(answer) == number_of(other) && place_of(answer) == place_of(other);
-    let answers = kinds && looks_of(answer) == looks_of(other);
-    say_which(answers, b" same answer", b" another answer");
-    let searches = same_search(search, beside);
-    say_which(searches, b" same search", b" another search");
+fn say_both(rt: &impl Print, first: &Ran, second: &Ran) -> io::Result<()> {
+    say_run(rt, first.answer)?;
+    let tries = first.search.tries;
+    let answer = if first.answer == second.answer {
+        "same"
+    } else {
+        "another"
+    };
+    let search = if first.search == second.search {
+        "same"
+    } else {
+        "another"
+    };
+    print!(rt; " tries {tries} {answer} answer {search} search")
 }
 
 // A run with a budget and a try after it, lent and by value, on a line of its own; and the search that was lent.
-fn step(search: Search, m: u64, n: u64, nonzeros: u64, list: &[u8], budget: u64) -> Search {
-    let lent = lend(search, m, n, nonzeros, list, budget);
-    let ran = search::run(search, m, n, nonzeros, list, budget);
-    let between = ran.search;
-    let tried = search::run(between, m, n, nonzeros, list, 1);
-    let first = lent.ran;
-    let second = lent.tried;
-    say(b": run");
-    say_both(first, ran);
-    say(b", try");
-    say_both(second, tried);
-    say(b"\n");
-    second.search
+fn step(rt: &impl Print, search: Search, pattern: &Pattern, budget: u64) -> io::Result<Search> {
+    let lent = lend(search, pattern, budget);
+    let beside = run_beside(search, pattern, budget);
+    print!(rt; ": run")?;
+    say_both(rt, &lent.ran, &beside.ran)?;
+    print!(rt; ", try")?;
+    say_both(rt, &lent.tried, &beside.tried)?;
+    println!(rt)?;
+    Ok(lent.tried.search)
 }
 
 // The step that a case gives.
-pub(crate) fn step_case(cases: &[u8], at: usize, search: Search) -> Turn {
-    let mut list = [0u8; LIST_ROOM];
-    let m = number_at(cases, say_field(cases, at));
-    let n = number_at(cases, m.next);
-    let nonzeros = number_at(cases, n.next);
-    let listed = list_at(cases, nonzeros.next, &mut list);
-    let budget = number_at(cases, listed.next);
-    let search = step(
-        search,
-        m.value,
-        n.value,
-        nonzeros.value,
-        first(&list, listed.value as usize),
-        budget.value,
-    );
-    Turn {
-        search,
-        next: budget.next,
-    }
+pub(crate) fn step_case(
+    rt: &impl Print,
+    cases: &mut Cases<'_>,
+    search: &mut Search,
+) -> io::Result<()> {
+    say_field(rt, cases)?;
+    let pattern = cases.pattern();
+    let budget = cases.number();
+    *search = step(rt, *search, &pattern, budget)?;
+    Ok(())
 }
 
-// The list of the 3 by 2 pattern that is searched.
-fn listed() -> [u8; 16] {
-    [0, 0, 0, 0, 0, 0, 1, 0, 1, 0, 0, 0, 2, 0, 1, 0]
+// The 3 by 2 pattern that is searched.
+fn sample() -> Pattern {
+    let mut room = [0u8; LIST_ROOM];
+    room[..16].copy_from_slice(&[0, 0, 0, 0, 0, 0, 1, 0, 1, 0, 0, 0, 2, 0, 1, 0]);
+    Pattern {
+        m: 3,
+        n: 2,
+        nonzeros: 4,
+        room,
+        len: 16,
+    }
 }
 
 // A fresh search of the pattern.
 pub(crate) fn fresh() -> Search {
-    let list = listed();
-    let opened = search::open(3, 2, 4, &list, 2, 2);
-    opened.search
+    search::open(3, 2, 4, sample().list(), 2, 2).unwrap_or(NO_SEARCH)
 }
 
 // A run with this budget, and a try, on the pattern's list.
-fn go(words: &[u8], search: Search, budget: u64) {
-    let list = listed();
-    say(words);
-    step(search, 3, 2, 4, &list, budget);
+fn go(rt: &impl Print, words: &str, search: Search, budget: u64) -> io::Result<()> {
+    print!(rt; "{words}")?;
+    step(rt, search, &sample(), budget)?;
+    Ok(())
 }
 
 // Searches that are no state, or whose tries or looks are at their limit.
-fn states(search: Search) {
-    let mut s = search;
+fn states(rt: &impl Print, search: &Search) -> io::Result<()> {
+    let mut s = *search;
     s.tries = 10_000_000_000_001;
-    go(b"tries over the limit", s, 3);
+    go(rt, "tries over the limit", s, 3)?;
     s.tries = 9_999_999_999_997;
-    go(b"tries near the limit", s, 3);
-    let mut long = search.trail;
-    long.len = MARK_ROOM + 1;
-    let mut s = search;
-    s.trail = long;
-    go(b"trail longer than its bytes", s, 3);
-    let mut s = search;
+    go(rt, "tries near the limit", s, 3)?;
+    let mut s = *search;
+    s.trail.len = MARK_ROOM + 1;
+    go(rt, "trail longer than its bytes", s, 3)?;
+    let mut s = *search;
     s.looks = 120;
-    go(b"looks of tries x m x N", s, 3);
+    go(rt, "looks of tries x m x N", s, 3)?;
     s.looks = 121;
-    go(b"looks over tries x m x N", s, 3);
+    go(rt, "looks over tries x m x N", s, 3)
 }
 
 // Marks past a trail's length, which an accepted run clears.
-fn bytes_past(search: Search) {
-    let mut trail = search.trail;
-    trail.marks[MARK_ROOM - 1] = 3;
-    let mut s = search;
-    s.trail = trail;
-    go(b"a mark past the length, refused", s, 1_000_001);
-    go(b"a mark past the length, cleared", s, 0);
+fn bytes_past(rt: &impl Print, search: &Search) -> io::Result<()> {
+    let mut s = *search;
+    s.trail.marks[MARK_ROOM - 1] = 3;
+    go(rt, "a mark past the length, refused", s, 1_000_001)?;
+    go(rt, "a mark past the length, cleared", s, 0)
 }
 
 // Steps on damaged copies of a search.
-pub(crate) fn damaged(search: Search) {
-    states(search);
-    bytes_past(search);
+pub(crate) fn damaged(rt: &impl Print, search: &Search) -> io::Result<()> {
+    states(rt, search)?;
+    bytes_past(rt, search)
 }

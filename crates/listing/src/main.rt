@@ -2,75 +2,92 @@
 // this program. The input is a line with a number of seven digits, and the text.
 #![tactic(auto)]
 
+use input::read_full;
 use model::limits::{LIST_ROOM, PART_ROOM};
-use testing::cases::number_at;
+use std::io;
+use testing::cases::Cases;
 use testing::laying::first;
-use texts::ReadAnswer;
+use texts::TextRead;
 use texts::read::read;
+use writing::Figures;
 use writing::write::write;
-use writing::{Figures, WriteAnswer};
 
-// A split written with the largest figures, and the length of its text.
-fn write_once(m: u64, n: u64, nonzeros: u64, list: &[u8], parts: &[u8], out: &mut [u8]) -> usize {
-    let figures = Figures {
-        volume: u64::MAX,
-        cap0: u64::MAX,
-        cap1: u64::MAX,
-        rest: u64::MAX,
-        tries: u64::MAX,
-        floor: u64::MAX,
-        complete: 1,
-    };
-    let answer = write(m, n, nonzeros, list, parts, figures, out);
-    match answer {
-        WriteAnswer::Written(len) => len as usize,
-        WriteAnswer::Refused(_, _) => 0,
-    }
-}
+// The largest figures.
+const FIGURES: Figures = Figures {
+    volume: u64::MAX,
+    cap0: u64::MAX,
+    cap1: u64::MAX,
+    rest: u64::MAX,
+    tries: u64::MAX,
+    floor: u64::MAX,
+    complete: 1,
+};
 
-// The same so often.
-fn write_often(
-    times: u64,
+// A split: its pattern's numbers and list, and the parts of its nonzeros.
+#[derive(Clone, Copy)]
+struct Split<'a> {
     m: u64,
     n: u64,
     nonzeros: u64,
-    list: &[u8],
-    parts: &[u8],
-    out: &mut [u8],
-) -> usize {
-    let mut len: usize = 0;
-    for _ in 0..times {
-        len = write_once(m, n, nonzeros, list, parts, out);
+    list: &'a [u8],
+    parts: &'a [u8],
+}
+
+impl Split<'_> {
+    // The split written with the largest figures, and the length of its text.
+    fn write(&self, out: &mut [u8]) -> usize {
+        let answer = write(
+            self.m,
+            self.n,
+            self.nonzeros,
+            self.list,
+            self.parts,
+            FIGURES,
+            out,
+        );
+        match answer {
+            Ok(len) => len as usize,
+            Err(_) => 0,
+        }
     }
-    len
+
+    // The same so often.
+    fn write_often(&self, times: u64, out: &mut [u8]) -> usize {
+        let mut len: usize = 0;
+        for _ in 0..times {
+            len = self.write(out);
+        }
+        len
+    }
 }
 
 // A text read, written so often, and printed.
-fn print_written(times: u64, text: &[u8]) {
+fn print_written(rt: &impl Print, times: u64, text: &[u8]) -> io::Result<()> {
     let mut list = [0u8; LIST_ROOM];
     let mut parts = [0u8; PART_ROOM];
     let mut out = [0u8; 65536];
-    let answer = read(text, &mut list, &mut parts);
-    match answer {
-        ReadAnswer::Read {
-            m,
-            n,
-            nonzeros,
-            integer: _,
-        } => {
-            let len = write_often(times, m, n, nonzeros, &list, &parts, &mut out);
-            io::write_all(1, first(&out, len));
+    match read(text, &mut list, &mut parts) {
+        Ok(TextRead { m, n, nonzeros, .. }) => {
+            let split = Split {
+                m,
+                n,
+                nonzeros,
+                list: &list,
+                parts: &parts,
+            };
+            let len = split.write_often(times, &mut out);
+            rt.write_all(first(&out, len))
         }
-        ReadAnswer::Refused(_, _) => {}
+        Err(_) => Ok(()),
     }
 }
 
 // Reads the number and the text.
-fn main() {
+fn main(rt: HostRuntime) -> io::Result<()> {
     let mut line = [0u8; 8];
     let mut text = [0u8; 65536];
-    io::read_full(0, &mut line);
-    let len = io::read_full(0, &mut text);
-    let times = number_at(&line, 0);
-    print_written(times.value, first(&text, len));
+    read_full(&mut rt.reader(), &mut line)?;
+    let len = read_full(&mut rt.reader(), &mut text)?;
+    let times = Cases { text: &line, at: 0 }.number();
+    print_written(&rt, times, first(&text, len))
 }

@@ -5,6 +5,7 @@ use Rattle.counting.specs.Tests.{◌and◌, ◌or◌, pick, bit}
 use Rattle.model.specs.Pattern.{column_in}
 use Rattle.model.specs.Matching.{Visited, visited, looked, columns_where, through, column_within, start_from, Tally, starts_from}
 pub use Rattle.matching.specs.Starts.{side_room}
+use Rattle.matching.specs.declared.augmenting.Ground as code
 use Rattle.matching.specs.declared.augmenting.Visit.{Visit}
 use Rattle.matching.specs.declared.augmenting.Matching.{Matching}
 
@@ -18,6 +19,10 @@ pub record Ground : Type 0 where
 
 abbrev pub ground_of : List ℕ → ℕ → List ℕ → List ℕ → Ground
 ground_of lean m list starts = record { lean = lean; m = m; list = list; starts = starts }
+
+-- as the code holds it
+abbrev pub ground_in : code.Ground → Ground
+ground_in g = ground_of g.lean.now g.m g.list.now g.starts.now
 
 -- one leans to part 0 and the other to part 1
 unfoldable pub different : ℕ → ℕ → Bool

@@ -1,26 +1,23 @@
 -- Document 01, 'Refusal table' and 'The walk', with document 02's requests 5 to 7: what an opening, a run and a showing answer, in
 -- the table's order of checks.
 -- Assumes nothing.
-use Rattle.std.specs.Prelude.{Bool, true, false, not, List, [], ◌∷◌, ℕ, zero, suc, ◌+◌, ◌*◌, eqb, ltb, leb, length, set}
+use Rattle.std.specs.Prelude.{Bool, true, false, not, List, [], ◌∷◌, ℕ, zero, suc, ◌+◌, ◌*◌, eqb, ltb, leb, length, set, Result, Ok, Err}
 use Rattle.std.proofs.Math.Option.{Option, some, none}
 use Rattle.counting.specs.Tests.{◌and◌, ◌or◌, bit}
 use Rattle.model.specs.declared.Word.TheVariants.{TooBig, OffMatrix, ShortBuffer, Order, Cap, NoSplit, Budget, State, SplitNumber}
-use Rattle.model.specs.declared.Verdict.{Verdict}
-use Rattle.model.specs.declared.Verdict.TheVariants.{Accepted, Refused}
 use Rattle.model.specs.declared.Caps.{Caps}
-use Rattle.model.specs.declared.CapAnswer.{CapAnswer}
-use Rattle.model.specs.declared.CapAnswer.TheVariants as cap-answer
+use Rattle.model.specs.declared.Refusal.{Refusal}
+use Rattle.model.specs.declared.Capped.{Capped}
 use Rattle.model.specs.declared.Search.{Search}
-use Rattle.model.specs.declared.Opened.{Opened}
-use Rattle.model.specs.declared.RunAnswer.{RunAnswer}
-use Rattle.model.specs.declared.RunAnswer.TheVariants as run-answer
+use Rattle.model.specs.declared.Ended.{Ended}
+use Rattle.model.specs.declared.Ended.TheVariants.{Complete, Stopped}
 use Rattle.model.specs.declared.Ran.{Ran}
-use Rattle.model.specs.declared.ShowAnswer.{ShowAnswer}
-use Rattle.model.specs.declared.ShowAnswer.TheVariants as show-answer
+use Rattle.model.specs.declared.Shown.{Shown}
+use Rattle.model.specs.declared.Shown.TheVariants as showing
 use Rattle.model.specs.Limits.{line_limit, nonzero_limit, percent_limit, budget_limit, tries_limit}
-use Rattle.model.specs.Refusal.{Reply, given, none_yet, refusal, reply_after, verdict_reply, reply_code, refuse, ◌then◌, each_verdict}
+use Rattle.model.specs.Refusal.{Verdict, refuse, ◌then◌, each_verdict, Reply, given, none_yet, reply_after, answer_reply, verdict_reply, reply_code}
 use Rattle.model.specs.Pattern.{Pattern, entry_bytes, row_place, column_place, high_in, row_in, column_in, pattern_of}
-use Rattle.model.specs.Split.{Split, both_caps, caps_outside, part_number, volume, cap_from_percent, rest_from_percent}
+use Rattle.model.specs.Split.{Split, caps_outside, part_number, volume, cap_from_percent, rest_from_percent}
 use Rattle.model.specs.Marking.{marking}
 use Rattle.model.specs.Walk.{Record, rules_of, fresh_of, walk, floor, shown_split}
 use Rattle.model.specs.State.{record_of, search_of, state_fine}
@@ -96,54 +93,30 @@ unfoldable pub cap_verdict : ℕ → ℕ → Verdict
 cap_verdict nonzeros percent =
     refuse (ltb nonzero_limit nonzeros) TooBig 0 then refuse (ltb percent_limit percent) Cap 0
 
--- what the cap from e answers, after this verdict
-unfoldable pub cap_after : Verdict → ℕ → ℕ → CapAnswer
-cap_after Accepted nonzeros percent =
-    cap-answer.Capped (cap_from_percent nonzeros percent) (rest_from_percent nonzeros percent)
-cap_after (Refused word place) nonzeros percent = cap-answer.Refused word place
+-- this cap and this rest
+abbrev pub capped : ℕ → ℕ → Result Capped Refusal
+capped cap rest = Ok (record { cap = cap; rest = rest })
 
--- what the cap from e answers
-unfoldable pub cap_call : ℕ → ℕ → CapAnswer
-cap_call nonzeros percent = cap_after (cap_verdict nonzeros percent) nonzeros percent
+-- what the cap from e answers: the cap and the rest
+unfoldable pub cap_call : ℕ → ℕ → Result Capped Refusal
+cap_call nonzeros percent =
+    cap_verdict nonzeros percent
+    then capped (cap_from_percent nonzeros percent) (rest_from_percent nonzeros percent)
 
--- the record that a refused opening leaves, with nothing in it
-unfoldable pub no_record : Record
-no_record =
-    record {
-      m = 0;
-      n = 0;
-      nonzeros = 0;
-      caps = both_caps 0;
-      tries = 0;
-      looks = 0;
-      best_count = 0;
-      best = none;
-      complete = false;
-      trail = [];
-    }
-
--- the search that an opening answers, after this verdict
-unfoldable pub opened_after : Verdict → Pattern → Caps → Search
-opened_after Accepted P caps = search_of (fresh_of P caps)
-opened_after (Refused word place) P caps = search_of no_record
-
--- what an opening answers
-unfoldable pub open_call : ℕ → ℕ → ℕ → List ℕ → Caps → Opened
+-- what an opening answers: the fresh search
+unfoldable pub open_call : ℕ → ℕ → ℕ → List ℕ → Caps → Result Search Refusal
 open_call m n nonzeros list caps =
-    let verdict = open_verdict m n nonzeros list caps in
-    record {
-      verdict = verdict;
-      search = opened_after verdict (pattern_of m n nonzeros list) caps;
-    }
+    open_verdict m n nonzeros list caps
+    then Ok (search_of (fresh_of (pattern_of m n nonzeros list) caps))
 
 -- complete 0 or 1
 unfoldable pub complete_number : Bool → ℕ
 complete_number complete = bit complete
 
 -- complete, or stopped otherwise, with the looks since the fresh search
-unfoldable pub ended : Bool → ℕ → RunAnswer
-ended true looks = run-answer.Complete looks
-ended false looks = run-answer.Stopped looks
+unfoldable pub ended : Bool → ℕ → Ended
+ended true looks = Complete looks
+ended false looks = Stopped looks
 
 -- the record after an accepted run
 unfoldable pub ran_record : Record → Pattern → ℕ → Record
@@ -151,11 +124,10 @@ ran_record r P budget = walk (rules_of P r.caps) budget r
 
 -- what a run answers, after this verdict; a refused one returns the search unchanged
 unfoldable pub ran_after : Verdict → Search → Pattern → ℕ → Ran
-ran_after Accepted s P budget =
+ran_after (Ok _) s P budget =
     let r = ran_record (record_of s) P budget in
-    record { answer = ended r.complete r.looks; search = search_of r }
-ran_after (Refused word place) s P budget =
-    record { answer = run-answer.Refused word place; search = s }
+    record { answer = Ok (ended r.complete r.looks); search = search_of r }
+ran_after (Err refusal) s P budget = record { answer = Err refusal; search = s }
 
 -- what a run answers
 unfoldable pub run_call : Search → ℕ → ℕ → ℕ → List ℕ → ℕ → Ran
@@ -171,9 +143,9 @@ unfoldable pub shown_from : Pattern → Caps → List ℕ → Split
 shown_from P caps best = shown_split P caps (marking P best)
 
 -- what an accepted showing gives: the volume of the shown split and the floor; without a best marking "none yet" and the floor
-unfoldable pub shown : Pattern → Caps → Option (List ℕ) → ℕ → ShowAnswer
-shown P caps none floor = show-answer.NoneYet floor
-shown P caps (some best) floor = show-answer.Split (volume P (shown_from P caps best)) floor
+unfoldable pub shown : Pattern → Caps → Option (List ℕ) → ℕ → Shown
+shown P caps none floor = showing.NoneYet floor
+shown P caps (some best) floor = showing.Split (volume P (shown_from P caps best)) floor
 
 -- a parts buffer after a split is written to it: the part of each of the first nonzeros, and the bytes past them as they were
 unfoldable pub part_bytes : Split → ℕ → List ℕ → List ℕ
@@ -186,17 +158,16 @@ shown_parts P caps none parts = parts
 shown_parts P caps (some best) parts = part_bytes (shown_from P caps best) P.size parts
 
 -- what a showing answers, after this verdict
-unfoldable pub shown_after : Verdict → Record → Pattern → ShowAnswer
-shown_after Accepted r P = shown P r.caps r.best (floor (rules_of P r.caps) r)
-shown_after (Refused word place) r P = show-answer.Refused word place
+unfoldable pub shown_after : Verdict → Record → Pattern → Result Shown Refusal
+shown_after verdict r P = verdict then Ok (shown P r.caps r.best (floor (rules_of P r.caps) r))
 
 -- the parts buffer after a showing with this verdict; a refused one leaves its bytes
 unfoldable pub parts_after : Verdict → Record → Pattern → List ℕ → List ℕ
-parts_after Accepted r P parts = shown_parts P r.caps r.best parts
-parts_after (Refused word place) r P parts = parts
+parts_after (Ok _) r P parts = shown_parts P r.caps r.best parts
+parts_after (Err refusal) r P parts = parts
 
 -- what a showing answers
-unfoldable pub show_call : Search → ℕ → ℕ → ℕ → List ℕ → List ℕ → ShowAnswer
+unfoldable pub show_call : Search → ℕ → ℕ → ℕ → List ℕ → List ℕ → Result Shown Refusal
 show_call s m n nonzeros list parts =
     shown_after
     (show_verdict (record_of s) m n nonzeros list parts)
@@ -213,21 +184,28 @@ show_parts s m n nonzeros list parts =
     parts
 
 -- the number and values of each case of an answer: the cap and the rest
-unfoldable pub cap_reply : CapAnswer → Reply
-cap_reply (cap-answer.Capped cap rest) = given (cap ∷ rest ∷ [])
-cap_reply (cap-answer.Refused word place) = refusal word place
+abbrev pub cap_reply : Result Capped Refusal → Reply
+cap_reply = answer_reply (λ capped. given (capped.cap ∷ capped.rest ∷ []))
+
+-- an opening: no values beside the search
+abbrev pub open_reply : Result Search Refusal → Reply
+open_reply = answer_reply (λ search. given [])
 
 -- complete 0 or 1, and the looks
-unfoldable pub run_reply : RunAnswer → Reply
-run_reply (run-answer.Complete looks) = given (complete_number true ∷ looks ∷ [])
-run_reply (run-answer.Stopped looks) = given (complete_number false ∷ looks ∷ [])
-run_reply (run-answer.Refused word place) = refusal word place
+unfoldable pub ended_reply : Ended → Reply
+ended_reply (Complete looks) = given (complete_number true ∷ looks ∷ [])
+ended_reply (Stopped looks) = given (complete_number false ∷ looks ∷ [])
+
+abbrev pub run_reply : Result Ended Refusal → Reply
+run_reply = answer_reply ended_reply
 
 -- volume and floor, or 255 and the floor for "none yet"
-unfoldable pub show_reply : ShowAnswer → Reply
-show_reply (show-answer.Split volume floor) = given (volume ∷ floor ∷ [])
-show_reply (show-answer.NoneYet floor) = none_yet (floor ∷ [])
-show_reply (show-answer.Refused word place) = refusal word place
+unfoldable pub shows_reply : Shown → Reply
+shows_reply (showing.Split volume floor) = given (volume ∷ floor ∷ [])
+shows_reply (showing.NoneYet floor) = none_yet (floor ∷ [])
+
+abbrev pub show_reply : Result Shown Refusal → Reply
+show_reply = answer_reply shows_reply
 
 -- what an accepted showing replies, by the best marking
 unfoldable pub shown_reply : Pattern → Caps → Option (List ℕ) → ℕ → Reply
@@ -269,5 +247,5 @@ show_replies s m n nonzeros list parts =
     (shown_reply P r.caps r.best (floor (rules_of P r.caps) r))
 
 -- a showing's answer as one number: 0, or 255 for "none yet", or a refusal as number + 256 × place
-unfoldable pub show_code : ShowAnswer → ℕ
+unfoldable pub show_code : Result Shown Refusal → ℕ
 show_code answer = reply_code (show_reply answer)

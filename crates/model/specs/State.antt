@@ -131,3 +131,19 @@ state_fine R m n nonzeros r =
     and counts_fine r.tries r.looks m nonzeros
     and trail_fine R r.complete r.trail
     and best_fine R r.best r.best_count r.complete
+
+-- a record with nothing in it
+abbrev pub no_record : Record
+no_record =
+    record {
+      m = 0;
+      n = 0;
+      nonzeros = 0;
+      caps = caps_of 0 0;
+      tries = 0;
+      looks = 0;
+      best_count = 0;
+      best = none;
+      complete = false;
+      trail = [];
+    }

@@ -1,20 +1,22 @@
-// The types of the code, as document 01 names them. There are no functions here: crates above compute with these types, and
-// specs/ says what they must compute.
+// The types of the code, as document 01 names them. Crates above compute with these types, and specs/ says what they must
+// compute; the one function here gives a refusal's word its number.
 #![tactic(auto)]
+
+ghost use Rattle.std.specs.Prelude.{◌≡◌};
 
 use trail::Trail;
 
 pub mod limits;
 
 // A part of a split: processor 0 or processor 1.
-#[derive(Clone, Copy)]
+#[derive(Clone, Copy, PartialEq, Eq)]
 pub enum Part {
     Zero,
     One,
 }
 
 // A mark of a line: all its nonzeros go to a part, or it is cut.
-#[derive(Clone, Copy)]
+#[derive(Clone, Copy, PartialEq, Eq)]
 pub enum Mark {
     To(Part),
     Cut,
@@ -30,7 +32,7 @@ pub enum Condition {
 }
 
 // The words of the refusal table.
-#[derive(Clone, Copy)]
+#[derive(Clone, Copy, PartialEq, Eq)]
 pub enum Word {
     Banner,
     SizeLine,
@@ -51,11 +53,40 @@ pub enum Word {
     SplitNumber,
 }
 
-// What a check answers: nothing to refuse, or a word of the table and a place.
-#[derive(Clone, Copy)]
-pub enum Verdict {
-    Accepted,
-    Refused(Word, u64),
+// The table's number for each word.
+impl From<Word> for u64 {
+    ghost use Rattle.model.specs.Refusal.{refusal_number};
+
+    ghost from_gives = { λ word number. number ≡ refusal_number word };
+
+    fn from(word: Word) -> u64 {
+        match word {
+            Word::Banner => 1,
+            Word::SizeLine => 2,
+            Word::EntryForm => 3,
+            Word::TooBig => 4,
+            Word::OffMatrix => 5,
+            Word::Repeated => 6,
+            Word::Count => 7,
+            Word::BadPart => 8,
+            Word::ShortBuffer => 9,
+            Word::Order => 10,
+            Word::Cap => 11,
+            Word::NoSplit => 12,
+            Word::Budget => 13,
+            Word::State => 14,
+            Word::NotSquare => 15,
+            Word::AboveDiagonal => 16,
+            Word::SplitNumber => 17,
+        }
+    }
+}
+
+/// A refusal: a word of the refusal table, and its place, counted from 0, which is 0 where the table gives none.
+#[derive(Clone, Copy, PartialEq, Eq)]
+pub struct Refusal {
+    pub word: Word,
+    pub place: u64,
 }
 
 // The caps of the two parts: cap 0 and cap 1.
@@ -66,7 +97,8 @@ pub struct Caps {
 }
 
 // The running search: the record of the walk, with the sum of the looks of its tries. Without `found` there is no best marking.
-#[derive(Clone, Copy)]
+// Kept: `found` stands beside `best`, since search::run and search::show promise a refusal of any pair that a caller hands in.
+#[derive(Clone, Copy, PartialEq, Eq)]
 pub struct Search {
     pub m: u64,
     pub n: u64,
@@ -82,39 +114,30 @@ pub struct Search {
     pub trail: Trail,
 }
 
-// The cap from a percentage and the rest that was cut off, or a refusal.
-#[derive(Clone, Copy)]
-pub enum CapAnswer {
-    Capped { cap: u64, rest: u64 },
-    Refused(Word, u64),
+/// The cap from a percentage, and the rest that was cut off, in hundredths.
+#[derive(Clone, Copy, PartialEq, Eq)]
+pub struct Capped {
+    pub cap: u64,
+    pub rest: u64,
 }
 
-// An opening's answer, and the search where it was accepted.
-#[derive(Clone, Copy)]
-pub struct Opened {
-    pub verdict: Verdict,
-    pub search: Search,
-}
-
-// How an accepted run ended, with the looks since the fresh search, or a refusal.
-#[derive(Clone, Copy)]
-pub enum RunAnswer {
+/// How an accepted run ended, with the looks since the fresh search.
+#[derive(Clone, Copy, PartialEq, Eq)]
+pub enum Ended {
     Complete { looks: u64 },
     Stopped { looks: u64 },
-    Refused(Word, u64),
 }
 
-// A run's answer, and the search after it.
-#[derive(Clone, Copy)]
+/// A run's answer, and the search after it; where it is refused, the search that was given.
+#[derive(Clone, Copy, PartialEq, Eq)]
 pub struct Ran {
-    pub answer: RunAnswer,
+    pub answer: Result<Ended, Refusal>,
     pub search: Search,
 }
 
-// A showing's answer: the volume of the split shown and the floor, or "none yet" and the floor, or a refusal.
-#[derive(Clone, Copy)]
-pub enum ShowAnswer {
+/// What an accepted showing gives: the volume of the split shown and the floor, or "none yet" and the floor.
+#[derive(Clone, Copy, PartialEq, Eq)]
+pub enum Shown {
     Split { volume: u64, floor: u64 },
     NoneYet { floor: u64 },
-    Refused(Word, u64),
 }

@@ -33,6 +33,8 @@ unfolding next_mark
 next-other zero allowed h = absurd (h refl)
 next-other (suc x) allowed h = refl
 
+pub ruleset nexts = (next-zero, next_denied, next-other)
+
 -- what a last mark becomes is a mark
 pub next_small : (x : ℕ) (allowed : Bool) → next_mark x allowed ≤ 2
 unfolding next_mark
@@ -51,6 +53,12 @@ part_test x =
     (λ e. or_right (eqb x 0) (eq-eqb x 1 (omega (facts, yes, e))))
     ∙ sym yes)
     (λ no. or_fails (ne_eqb x 0 (λ e. omega (facts, no))) (ne_eqb x 1 (λ e. omega (facts, no))) ∙ sym no)
+
+-- one test or another that fails
+pub or_none : (a : Bool) {b : Bool} → b ≡ false → a or b ≡ a
+unfolding ◌or◌
+or_none true h = refl
+or_none false h = h
 
 -- one of two numbers is not 0
 some_first : (part : Bool) (n : ℕ) → (part or ltb 0 n) ≡ ltb 0 (bit part + n)

@@ -10,10 +10,9 @@ use lib.Dec.{ltb}
 use borrow.Author.Tests.{lt-ltb, le-ltb, lt-leb, ltb-false, eq-eqb}
 use Rattle.counting.proofs.Joined.{by_test, and_intro, or_left, or_right, or_fails}
 use Rattle.model.specs.declared.Word.TheVariants.{SplitNumber, OffMatrix, Order}
-use Rattle.model.specs.declared.Verdict.TheVariants.{Accepted}
 use Rattle.model.specs.Limits.{line_limit}
 use Rattle.model.specs.Pattern.{high_in, number_in, row_place, column_place, row_in, column_in}
-use Rattle.model.specs.Refusal.{each_verdict}
+use Rattle.model.specs.Refusal.{accepted, each_verdict}
 use Rattle.model.specs.Calls.{rises, split_number, off_matrix, entry_verdict}
 use Rattle.model.proofs.Theorems.Checks.{refuse_no, then_accepted, each_accepted, each_more, entry_column}
 
@@ -24,16 +23,16 @@ cell_before list (suc t) = 65536 * row_in list t + column_in list t + 1
 
 -- so many are passed over, and this is the cell of the last of them
 pub record Passed (m n : ℕ) (list : List ℕ) (t before : ℕ) : Type 0 where
-  pub accepted : each_verdict (entry_verdict m n list) t ≡ Accepted
+  pub passed : each_verdict (entry_verdict m n list) t ≡ accepted
   pub cell : before ≡ cell_before list t
 
 pub passed_none : (m n : ℕ) (list : List ℕ) → Passed m n list 0 0
 unfolding each_verdict cell_before
-passed_none m n list = record { accepted = refl; cell = refl }
+passed_none m n list = record { passed = refl; cell = refl }
 
 -- a later cell is one that rises
 later-rises :
-    (m n : ℕ) (list : List ℕ) (t : ℕ) → n ≤ line_limit → each_verdict (entry_verdict m n list) t ≡ Accepted → column_in list t < n →
+    (m n : ℕ) (list : List ℕ) (t : ℕ) → n ≤ line_limit → each_verdict (entry_verdict m n list) t ≡ accepted → column_in list t < n →
     cell_before list t < 65536 * row_in list t + column_in list t + 1 → rises list t ≡ true
 unfolding cell_before rises
 later-rises m n list zero small accepted column later = refl
@@ -56,17 +55,17 @@ module _ {m n : ℕ} {list : List ℕ} {t before : ℕ} (rows : m ≤ line_limit
   unfolding off_matrix
   inside = or_fails (lt-leb m (row_in list t) row) (lt-leb n (column_in list t) column)
 
-  passes : entry_verdict m n list t ≡ Accepted
+  passes : entry_verdict m n list t ≡ accepted
   unfolding entry_verdict
   passes =
       then_accepted _ (then_accepted _ (refuse_no SplitNumber t whole) ∙ refuse_no OffMatrix t inside)
-      ∙ refuse_no Order t (ap not (later-rises m n list t columns p.accepted column (omega (arith, p.cell))))
+      ∙ refuse_no Order t (ap not (later-rises m n list t columns p.passed column (omega (arith, p.cell))))
 
   -- one more
   pub passed_more : (cell : ℕ) → cell ≡ 65536 * row_in list t + column_in list t + 1 → Passed m n list (t + 1) cell
   unfolding cell_before
   passed_more cell e =
       record {
-        accepted = each_more (entry_verdict m n list) t p.accepted passes;
+        passed = each_more (entry_verdict m n list) t p.passed passes;
         cell = e ∙ sym (ap (cell_before list) (add-one t));
       }

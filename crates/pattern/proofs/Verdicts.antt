@@ -5,73 +5,34 @@ use mathlib.Core.List.{List}
 use mathlib.Core.Path.{◌≡◌, refl, sym, ◌∙◌, ap}
 use Prim.Native.Nat.{ℕ, zero, suc, ◌+◌, ◌-◌, ◌*◌, ◌≤◌, ◌<◌}
 use native.Mathlib.Omega.{arith}
-use denote.Enum.Declared.{tag_of, declared}
 use lib.Dec.{ltb, leb, eqb}
-use lib.ListN.{length, get_or}
+use lib.ListN.{get_or}
 use borrow.Author.Tests.{lt-ltb, le-ltb, le-leb, lt-leb, eq-eqb, ne_eqb}
 use Rattle.counting.specs.Tests.{◌and◌, ◌or◌}
-use Rattle.counting.proofs.Joined.{no_way, and_fails_left, or_left, or_right, or_passed, or_fails}
-use Rattle.model.specs.contracts.Verdict.{enum}
-use Rattle.model.specs.declared.Word.{Word}
-use Rattle.model.specs.declared.Word.TheVariants.{TooBig, ShortBuffer, Cap, NoSplit}
-use Rattle.model.specs.declared.Verdict.{Verdict}
-use Rattle.model.specs.declared.Verdict.TheVariants.{Accepted, Refused}
+use Rattle.counting.proofs.Joined.{and_fails_left, or_left, or_passed, or_fails}
+use Rattle.model.specs.declared.Word.TheVariants.{TooBig, Cap, NoSplit}
 use Rattle.model.specs.declared.Caps.{Caps}
 use Rattle.model.specs.Limits.{line_limit, nonzero_limit}
-use Rattle.model.specs.Refusal.{◌then◌}
-use Rattle.model.specs.Pattern.{entry_bytes, row_place, column_place, high_in, row_in, column_in}
+use Rattle.model.specs.Refusal.{accepted, refused, refuse, ◌then◌}
+use Rattle.model.specs.Pattern.{row_place, column_place, high_in, row_in, column_in}
 use Rattle.model.specs.Split.{caps_outside}
-use Rattle.model.specs.Calls.{outside, sizes_verdict, rises, split_number, off_matrix, entries_verdict, list_verdict, open_verdict}
-use Rattle.model.proofs.Theorems.Checks.{refuse_so, refuse_no, then_accepted, then_refused, then_assoc}
+use Rattle.model.specs.Calls.{outside, sizes_verdict, rises, split_number, off_matrix}
+use Rattle.model.proofs.Theorems.Checks.{refuse_so, refuse_no, refuse_either, then_accepted}
 use Rattle.pattern.specs.Checks.{caps_verdict}
 
--- the tests of the sizes
-unfoldable pub too_big : ℕ → ℕ → ℕ → Bool
-too_big m n nonzeros =
-    outside line_limit m or outside line_limit n or ltb nonzero_limit nonzeros or ltb (m * n) nonzeros
-
-module _ (m n nonzeros : ℕ) where
-  sizes_refused : too_big m n nonzeros ≡ true → sizes_verdict m n nonzeros ≡ Refused TooBig 0
-  unfolding sizes_verdict too_big
-  sizes_refused h = refuse_so TooBig 0 h
-
-  -- a size outside its range is refused, whichever it is
-  pub rows_refused : outside line_limit m ≡ true → sizes_verdict m n nonzeros ≡ Refused TooBig 0
-  unfolding too_big
-  rows_refused h = sizes_refused (or_left _ (or_left _ (or_left _ h)))
-
-  pub columns_refused : outside line_limit n ≡ true → sizes_verdict m n nonzeros ≡ Refused TooBig 0
-  unfolding too_big
-  columns_refused h = sizes_refused (or_left _ (or_left _ (or_right (outside line_limit m) h)))
-
-  pub nonzeros_refused : nonzero_limit < nonzeros → sizes_verdict m n nonzeros ≡ Refused TooBig 0
-  unfolding too_big
-  nonzeros_refused h =
-      sizes_refused
-      (or_left _ (or_right (outside line_limit m or outside line_limit n) (lt-ltb nonzero_limit nonzeros h)))
-
-  pub room_refused : m * n < nonzeros → sizes_verdict m n nonzeros ≡ Refused TooBig 0
-  unfolding too_big
-  room_refused h =
-      sizes_refused
-      (or_right
-      (outside line_limit m or outside line_limit n or ltb nonzero_limit nonzeros)
-      (lt-ltb (m * n) nonzeros h))
-
-  pub sizes_fine :
-      outside line_limit m ≡ false → outside line_limit n ≡ false →
-      nonzeros ≤ nonzero_limit → nonzeros ≤ m * n → sizes_verdict m n nonzeros ≡ Accepted
-  unfolding sizes_verdict
-  sizes_fine a b c d =
-      refuse_no
-      TooBig
-      0
-      (or_fails (or_fails (or_fails a b) (le-ltb nonzero_limit nonzeros c)) (le-ltb (m * n) nonzeros d))
-
--- a verdict with the first tag is no refusal
-pub accepted_tag : (v : Verdict) → tag_of (declared enum) v ≡ 0 → v ≡ Accepted
-accepted_tag Accepted h = refl
-accepted_tag (Refused word place) h = no_way (omega arith)
+-- the checks of the sizes, one after another
+pub sizes_each :
+    (m n nonzeros : ℕ) →
+    sizes_verdict m n nonzeros
+    ≡ refuse (outside line_limit m) TooBig 0
+    then refuse (outside line_limit n) TooBig 0
+    then refuse (ltb nonzero_limit nonzeros) TooBig 0
+    then refuse (ltb (m * n) nonzeros) TooBig 0
+unfolding sizes_verdict
+sizes_each m n nonzeros =
+    refuse_either _ _ TooBig 0
+    ∙ ap (λ v. v then refuse (ltb (m * n) nonzeros) TooBig 0) (refuse_either _ _ TooBig 0
+    ∙ ap (λ v. v then refuse (ltb nonzero_limit nonzeros) TooBig 0) (refuse_either _ _ TooBig 0))
 
 -- the first nonzero comes after none
 pub rises-first : (list : List ℕ) (t : ℕ) → t ≡ 0 → rises list t ≡ true
@@ -150,39 +111,12 @@ module _ (m n : ℕ) (list : List ℕ) (t : ℕ) where
   unfolding off_matrix ◌or◌
   off_by_column a b e l f = rw (lt-leb m (row_in list t) (omega arith), f)
 
-module _ (m n nonzeros : ℕ) (list : List ℕ) where
-  pub list_sizes :
-      (word : Word) (place : ℕ) → sizes_verdict m n nonzeros ≡ Refused word place →
-      list_verdict m n nonzeros list ≡ Refused word place
-  unfolding list_verdict
-  list_sizes word place h = then_refused _ (then_refused _ h)
-
-  pub list-short :
-      sizes_verdict m n nonzeros ≡ Accepted → length list < entry_bytes * nonzeros →
-      list_verdict m n nonzeros list ≡ Refused ShortBuffer 0
-  unfolding list_verdict
-  list-short h l = then_refused _ (then_accepted _ h ∙ refuse_so ShortBuffer 0 (lt-ltb (length list) (entry_bytes * nonzeros) l))
-
-  pub list-entries :
-      sizes_verdict m n nonzeros ≡ Accepted → entry_bytes * nonzeros ≤ length list →
-      list_verdict m n nonzeros list ≡ entries_verdict m n list nonzeros
-  unfolding list_verdict
-  list-entries h l =
-      then_accepted _ (then_accepted _ h ∙ refuse_no ShortBuffer 0 (le-ltb (length list) (entry_bytes * nonzeros) l))
-
--- an opening: the list's checks, then those of the caps
-pub open_is :
-    (m n nonzeros : ℕ) (list : List ℕ) (caps : Caps) →
-    open_verdict m n nonzeros list caps ≡ (list_verdict m n nonzeros list then caps_verdict nonzeros caps)
-unfolding open_verdict caps_verdict
-open_is m n nonzeros list caps = then_assoc _ _ _
-
 -- caps in range that together are below N
-pub caps_short : (nonzeros : ℕ) (caps : Caps) → caps_outside caps ≡ false → caps.cap0 + caps.cap1 < nonzeros → Refused NoSplit 0 ≡ caps_verdict nonzeros caps
+pub caps_short : (nonzeros : ℕ) (caps : Caps) → caps_outside caps ≡ false → caps.cap0 + caps.cap1 < nonzeros → refused NoSplit 0 ≡ caps_verdict nonzeros caps
 unfolding caps_verdict
 caps_short nonzeros caps fine short = sym (then_accepted _ (refuse_no Cap 0 fine) ∙ refuse_so NoSplit 0 (lt-ltb _ _ short))
 
 -- caps in range that together are at least N
-pub caps_enough : (nonzeros : ℕ) (caps : Caps) → caps_outside caps ≡ false → nonzeros ≤ caps.cap0 + caps.cap1 → Accepted ≡ caps_verdict nonzeros caps
+pub caps_enough : (nonzeros : ℕ) (caps : Caps) → caps_outside caps ≡ false → nonzeros ≤ caps.cap0 + caps.cap1 → accepted ≡ caps_verdict nonzeros caps
 unfolding caps_verdict
 caps_enough nonzeros caps fine enough = sym (then_accepted _ (refuse_no Cap 0 fine) ∙ refuse_no NoSplit 0 (le-ltb _ _ enough))

@@ -2,9 +2,8 @@
 -- Assumes nothing.
 use Rattle.std.specs.Prelude.{ℕ, ◌+◌, ltb}
 use Rattle.model.specs.declared.Word.TheVariants.{Cap, NoSplit}
-use Rattle.model.specs.declared.Verdict.{Verdict}
 use Rattle.model.specs.declared.Caps.{Caps}
-use Rattle.model.specs.Refusal.{refuse, ◌then◌}
+use Rattle.model.specs.Refusal.{Verdict, refuse, ◌then◌}
 use Rattle.model.specs.Split.{caps_outside}
 
 -- 11, 12: either cap outside its range; N above their sum

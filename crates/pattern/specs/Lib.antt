@@ -1,4 +1,5 @@
 pub mod Room
+pub mod Matrix
 pub mod Checks
 pub mod Splits
 pub mod Measures

@@ -1,16 +1,13 @@
 -- What is answered when the volume or the load of a split given as bytes is asked for, for any values.
 -- Assumes nothing.
-use Rattle.std.specs.Prelude.{List, [], ◌∷◌, ℕ, ltb, length, get_or}
+use Rattle.std.specs.Prelude.{List, [], ◌∷◌, ℕ, ltb, length, get_or, Result, Ok}
 use Rattle.model.specs.declared.Part.{Part}
 use Rattle.model.specs.declared.Word.TheVariants.{BadPart, ShortBuffer}
-use Rattle.model.specs.declared.Verdict.{Verdict}
-use Rattle.model.specs.declared.Verdict.TheVariants.{Accepted, Refused}
-use Rattle.model.specs.Refusal.{Reply, given, refusal, reply_after, refuse, ◌then◌, each_verdict}
+use Rattle.model.specs.declared.Refusal.{Refusal}
+use Rattle.model.specs.Refusal.{Verdict, refuse, ◌then◌, each_verdict, Reply, given, reply_after, answer_reply}
 use Rattle.model.specs.Pattern.{pattern_of}
 use Rattle.model.specs.Split.{volume, load}
 use Rattle.model.specs.Calls.{list_verdict}
-use Rattle.pattern.specs.declared.Measured.{Measured}
-use Rattle.pattern.specs.declared.Measured.TheVariants as measured
 use Rattle.pattern.specs.Splits.{split_of}
 
 -- 8: the part byte of nonzero t is above 1
@@ -27,29 +24,21 @@ unfoldable pub measure_verdict : ℕ → ℕ → ℕ → List ℕ → List ℕ �
 measure_verdict m n nonzeros list parts =
     list_verdict m n nonzeros list then parts_verdict nonzeros parts
 
--- the value, or the refusal, after this verdict
-unfoldable pub measured_after : Verdict → ℕ → Measured
-measured_after Accepted value = measured.Value value
-measured_after (Refused word place) value = measured.Refused word place
-
 -- what is answered for the volume
-unfoldable pub volume_call : ℕ → ℕ → ℕ → List ℕ → List ℕ → Measured
+unfoldable pub volume_call : ℕ → ℕ → ℕ → List ℕ → List ℕ → Result ℕ Refusal
 volume_call m n nonzeros list parts =
-    measured_after
-    (measure_verdict m n nonzeros list parts)
-    (volume (pattern_of m n nonzeros list) (split_of parts))
+    measure_verdict m n nonzeros list parts
+    then Ok (volume (pattern_of m n nonzeros list) (split_of parts))
 
 -- what is answered for the load of a part
-unfoldable pub load_call : ℕ → ℕ → ℕ → List ℕ → List ℕ → Part → Measured
+unfoldable pub load_call : ℕ → ℕ → ℕ → List ℕ → List ℕ → Part → Result ℕ Refusal
 load_call m n nonzeros list parts p =
-    measured_after
-    (measure_verdict m n nonzeros list parts)
-    (load (pattern_of m n nonzeros list) (split_of parts) p)
+    measure_verdict m n nonzeros list parts
+    then Ok (load (pattern_of m n nonzeros list) (split_of parts) p)
 
--- the number and values of each case
-unfoldable pub measured_reply : Measured → Reply
-measured_reply (measured.Value value) = given (value ∷ [])
-measured_reply (measured.Refused word place) = refusal word place
+-- the number and values of each case: the volume or the load
+abbrev pub measured_reply : Result ℕ Refusal → Reply
+measured_reply = answer_reply (λ value. given (value ∷ []))
 
 -- what is replied for the volume
 unfoldable pub volume_replies : ℕ → ℕ → ℕ → List ℕ → List ℕ → Reply

@@ -1,16 +1,15 @@
 // The checks of a list of nonzeros and of an opening, in the refusal table's order.
-ghost use Rattle.std.specs.Prelude.{not, ◌≡◌, ◌≤◌};
-ghost use Rattle.model.specs.declared.Verdict.TheVariants.{Accepted};
+// Kept: numbers and list are as a caller hands them in, of any size, of which the checks refuse some: the signatures that callers have stay.
+ghost use Rattle.std.specs.Prelude.{◌≡◌, ◌≤◌};
 ghost use Rattle.model.specs.Limits.{line_limit};
-ghost use Rattle.model.specs.Refusal.{refuse, ◌then◌, verdict_reply};
+ghost use Rattle.model.specs.Refusal.{accepted, refuse, verdict_reply};
 ghost use Rattle.model.specs.Calls.{outside, rises, sizes_verdict, split_number, off_matrix, entry_verdict, entries_verdict, list_verdict, open_verdict, list_replies, open_replies};
 ghost use Rattle.pattern.specs.Checks.{caps_verdict};
 
 use crate::cap::caps_outside;
-use crate::reading::{byte_at, column_of, long16, row_of, wide16};
-use counting::joining::either_of;
+use crate::reading::{byte_at, column_of, row_of};
 use model::limits::{LINE_LIMIT, NONZERO_LIMIT};
-use model::{Caps, Verdict, Word};
+use model::{Caps, Refusal, Word};
 
 // A number of rows or columns outside its range.
 fn outside_lines(x: u64) -> bool
@@ -19,53 +18,24 @@ fn outside_lines(x: u64) -> bool
     x == 0 || LINE_LIMIT < x
 }
 
-// 4: m, n or N outside its range.
-pub fn sizes_verdict(m: u64, n: u64, nonzeros: u64) -> Verdict
-    ensures { result ≡ sizes_verdict m n nonzeros }
-{
-    if outside_lines(m) {
-        return Verdict::Refused(Word::TooBig, 0);
-    }
-    if outside_lines(n) {
-        return Verdict::Refused(Word::TooBig, 0);
-    }
-    if NONZERO_LIMIT < nonzeros {
-        return Verdict::Refused(Word::TooBig, 0);
-    }
-    if m * n < nonzeros {
-        return Verdict::Refused(Word::TooBig, 0);
-    }
-    Verdict::Accepted
-}
-
-// A refusal where the test passes.
-pub fn refuse_if(test: bool, word: Word, place: u64) -> Verdict
+/// A refusal where the test passes.
+pub fn refuse_if(test: bool, word: Word, place: u64) -> Result<(), Refusal>
     ensures { result ≡ refuse test word place }
 {
     if test {
-        return Verdict::Refused(word, place);
+        return Err(Refusal { word, place });
     }
-    Verdict::Accepted
+    Ok(())
 }
 
-// A refusal where the test fails.
-pub fn refuse_unless(test: bool, word: Word, place: u64) -> Verdict
-    ensures { result ≡ refuse (not test) word place }
+// 4: m, n or N outside its range.
+pub fn sizes_verdict(m: u64, n: u64, nonzeros: u64) -> Result<(), Refusal>
+    ensures { result ≡ sizes_verdict m n nonzeros }
 {
-    if test {
-        return Verdict::Accepted;
-    }
-    Verdict::Refused(word, place)
-}
-
-// The second check is made where the first refuses nothing.
-pub fn and_then(first: Verdict, later: Verdict) -> Verdict
-    ensures { result ≡ (first then later) }
-{
-    match first {
-        Verdict::Accepted => later,
-        Verdict::Refused(word, place) => Verdict::Refused(word, place),
-    }
+    refuse_if(outside_lines(m), Word::TooBig, 0)?;
+    refuse_if(outside_lines(n), Word::TooBig, 0)?;
+    refuse_if(NONZERO_LIMIT < nonzeros, Word::TooBig, 0)?;
+    refuse_if(m * n < nonzeros, Word::TooBig, 0)
 }
 
 // Nonzero t comes after the one before it.
@@ -80,122 +50,92 @@ fn is_rising(list: &[u8], t: u16) -> bool
     if before < row {
         return true;
     }
-    if before == row {
-        let column = column_of(list, t);
-        let earlier = column_of(list, t - 1);
-        return earlier < column;
-    }
-    false
+    before == row && column_of(list, t - 1) < column_of(list, t)
 }
 
 // The row or the column number of nonzero t has a high byte over 1.
 fn is_split(list: &[u8], t: u16) -> bool
     ensures { result ≡ split_number list.now t }
 {
-    let at = 4 * wide16(t);
-    let row = byte_at(list, at + 1);
-    let column = byte_at(list, at + 3);
-    1 < row || 1 < column
+    let at = 4 * usize::from(t);
+    1 < byte_at(list, at + 1) || 1 < byte_at(list, at + 3)
 }
 
 // Nonzero t lies outside the matrix.
 fn is_off(m: u64, n: u64, list: &[u8], t: u16) -> bool
     ensures { result ≡ off_matrix m n list.now t }
 {
-    let row = long16(row_of(list, t));
-    let column = long16(column_of(list, t));
-    m <= row || n <= column
+    m <= u64::from(row_of(list, t)) || n <= u64::from(column_of(list, t))
 }
 
 // 17, 5, 10: a split number; row or column outside; list not strictly rising.
-pub fn entry_verdict(m: u64, n: u64, list: &[u8], t: u16) -> Verdict
+#[tactic(auto, unfolding(model::specs::Calls::entry_verdict))]
+pub fn entry_verdict(m: u64, n: u64, list: &[u8], t: u16) -> Result<(), Refusal>
     ensures { result ≡ entry_verdict m n list.now t }
 {
-    let place = long16(t);
-    let split = refuse_if(is_split(list, t), Word::SplitNumber, place);
-    let off = refuse_if(is_off(m, n, list, t), Word::OffMatrix, place);
-    let order = refuse_unless(is_rising(list, t), Word::Order, place);
-    let first = and_then(split, off);
-    and_then(first, order)
+    let place = u64::from(t);
+    refuse_if(is_split(list, t), Word::SplitNumber, place)?;
+    refuse_if(is_off(m, n, list, t), Word::OffMatrix, place)?;
+    refuse_if(!is_rising(list, t), Word::Order, place)
 }
 
 // So many of the first nonzeros lie in the matrix and rise. Each number is read once: of the nonzero before, its cell is kept.
 fn passed_over(m: u64, n: u64, list: &[u8], nonzeros: u16) -> u16
     requires { (m ≤ line_limit) × (n ≤ line_limit) }
-    ensures { (result ≤ nonzeros) × (entries_verdict m n list.now result ≡ Accepted) }
+    ensures { (result ≤ nonzeros) × (entries_verdict m n list.now result ≡ accepted) }
 {
-    let mut t: u16 = 0;
     let mut before: u64 = 0;
-    while t < nonzeros {
-        let row = long16(row_of(list, t));
-        let column = long16(column_of(list, t));
+    for t in 0..nonzeros {
+        let row = u64::from(row_of(list, t));
+        let column = u64::from(column_of(list, t));
         let cell = 65536 * row + column + 1;
-        if either_of(either_of(m <= row, n <= column), cell <= before) {
+        if m <= row || n <= column || cell <= before {
             return t;
         }
         before = cell;
-        t += 1;
     }
-    t
+    nonzeros
 }
 
 // The checks of the first nonzeros, in number order, from the first on that is not passed over.
-fn entries_verdict(m: u64, n: u64, list: &[u8], nonzeros: u16) -> Verdict
+#[tactic(auto, using(model::proofs::Theorems::Checks::each_more))]
+fn entries_verdict(m: u64, n: u64, list: &[u8], nonzeros: u16) -> Result<(), Refusal>
     requires { (m ≤ line_limit) × (n ≤ line_limit) }
     ensures { result ≡ entries_verdict m n list.now nonzeros }
 {
-    let mut t = passed_over(m, n, list, nonzeros);
-    while t < nonzeros {
-        let v = entry_verdict(m, n, list, t);
-        match v {
-            Verdict::Accepted => {
-                t += 1;
-            }
-            Verdict::Refused(word, place) => {
-                return Verdict::Refused(word, place);
-            }
-        }
+    // Kept: a loop of one check and `?`, as those of the parts and of the writer are; with the check passed in as a closure it is no plainer.
+    for t in passed_over(m, n, list, nonzeros)..nonzeros {
+        entry_verdict(m, n, list, t)?;
     }
-    Verdict::Accepted
+    Ok(())
 }
 
-// The checks of a list: 4, 9, then per nonzero 17, 5, 10.
-pub fn list_verdict(m: u64, n: u64, nonzeros: u64, list: &[u8]) -> Verdict
+/// The checks of a list: 4, 9, then per nonzero 17, 5, 10.
+#[tactic(auto, unfolding(model::specs::Calls::list_verdict, model::specs::Calls::list_replies))]
+pub fn list_verdict(m: u64, n: u64, nonzeros: u64, list: &[u8]) -> Result<(), Refusal>
     ensures verdict { result ≡ list_verdict m n nonzeros list.now }
     ensures reply { verdict_reply result ≡ list_replies m n nonzeros list.now }
 {
-    let sizes = sizes_verdict(m, n, nonzeros);
-    match sizes {
-        Verdict::Accepted => {
-            if list.len() < 4 * (nonzeros as usize) {
-                return Verdict::Refused(Word::ShortBuffer, 0);
-            }
-            entries_verdict(m, n, list, nonzeros as u16)
-        }
-        Verdict::Refused(word, place) => Verdict::Refused(word, place),
-    }
+    sizes_verdict(m, n, nonzeros)?;
+    refuse_if(list.len() < 4 * (nonzeros as usize), Word::ShortBuffer, 0)?;
+    entries_verdict(m, n, list, nonzeros as u16)
 }
 
 // 11, 12: either cap outside its range; N above their sum.
-#[tactic(auto, using(crate::proofs::Verdicts::caps_short, crate::proofs::Verdicts::caps_enough))]
-fn caps_verdict(nonzeros: u64, caps: Caps) -> Verdict
+#[tactic(auto, using(crate::proofs::Verdicts::caps_short, crate::proofs::Verdicts::caps_enough), unfolding(crate::specs::Checks::caps_verdict))]
+fn caps_verdict(nonzeros: u64, caps: Caps) -> Result<(), Refusal>
     ensures { result ≡ caps_verdict nonzeros caps }
 {
-    if caps_outside(caps) {
-        return Verdict::Refused(Word::Cap, 0);
-    }
-    if caps.cap0 + caps.cap1 < nonzeros {
-        return Verdict::Refused(Word::NoSplit, 0);
-    }
-    Verdict::Accepted
+    refuse_if(caps_outside(caps), Word::Cap, 0)?;
+    refuse_if(caps.cap0 + caps.cap1 < nonzeros, Word::NoSplit, 0)
 }
 
-// Opening: the list's checks; then 11, 12.
-pub fn open_verdict(m: u64, n: u64, nonzeros: u64, list: &[u8], caps: Caps) -> Verdict
+/// Opening: the list's checks; then 11, 12.
+#[tactic(auto, unfolding(model::specs::Calls::open_verdict, model::specs::Calls::open_replies, crate::specs::Checks::caps_verdict))]
+pub fn open_verdict(m: u64, n: u64, nonzeros: u64, list: &[u8], caps: Caps) -> Result<(), Refusal>
     ensures verdict { result ≡ open_verdict m n nonzeros list.now caps }
     ensures reply { verdict_reply result ≡ open_replies m n nonzeros list.now caps }
 {
-    let listed = list_verdict(m, n, nonzeros, list);
-    let limits = caps_verdict(nonzeros, caps);
-    and_then(listed, limits)
+    list_verdict(m, n, nonzeros, list)?;
+    caps_verdict(nonzeros, caps)
 }

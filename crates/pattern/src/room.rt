@@ -2,7 +2,6 @@
 ghost use Rattle.std.specs.Prelude.{◌≡◌, ◌+◌};
 ghost use Rattle.pattern.specs.Room.{within};
 
-use crate::reading::wide16;
 use model::limits::LINE_ROOM;
 
 // So many lines, or as many as there is room for.
@@ -20,5 +19,5 @@ pub fn lines_within(lines: usize) -> u16
 pub fn lines_of(m: u16, n: u16) -> u16
     ensures { result ≡ within (m + n) }
 {
-    lines_within(wide16(m) + wide16(n))
+    lines_within(usize::from(m) + usize::from(n))
 }

@@ -11,8 +11,8 @@ use lib.ListN.{length, get_or}
 use borrow.Author.Tests.{ltb-true, ltb-false, eqb-true}
 use Rattle.counting.specs.Tests.{◌and◌, ◌or◌}
 use Rattle.counting.proofs.Joined.{and_left, and_right, or_cases, or_fails_left, or_fails_right}
+use Rattle.model.specs.Refusal.{accepted}
 use Rattle.model.specs.declared.Word.TheVariants.{BadPart, ShortBuffer}
-use Rattle.model.specs.declared.Verdict.TheVariants.{Accepted}
 use Rattle.model.specs.Limits.{line_limit, nonzero_limit}
 use Rattle.model.specs.Pattern.{entry_bytes, row_in, column_in}
 use Rattle.model.specs.Calls.{sizes_verdict, rises, entry_verdict}
@@ -27,7 +27,7 @@ cell_in list t = line_limit * row_in list t + column_in list t
 
 -- a split that the writer accepts
 pub record Fine (m n nonzeros : ℕ) (list parts : List ℕ) : Type 0 where
-  pub sizes : sizes_verdict m n nonzeros ≡ Accepted
+  pub sizes : sizes_verdict m n nonzeros ≡ accepted
   pub rows : m ≤ line_limit
   pub columns : n ≤ line_limit
   pub few : nonzeros ≤ nonzero_limit
@@ -50,20 +50,20 @@ later_cell list n t b c h =
     (λ e. omega (arith, eqb-true (row_in list t) (row_in list (suc t)) (and_left same column e), ltb-true (column_in list t) (column_in list (suc t)) (and_right same column e)))
     (or_cases (ltb (row_in list t) (row_in list (suc t))) (same and column) h)
 
-module _ (m n nonzeros : ℕ) (list parts : List ℕ) (accepted : write_verdict m n nonzeros list parts ≡ Accepted) where
-  sizes_fine : sizes_verdict m n nonzeros ≡ Accepted
+module _ (m n nonzeros : ℕ) (list parts : List ℕ) (passes : write_verdict m n nonzeros list parts ≡ accepted) where
+  sizes_fine : sizes_verdict m n nonzeros ≡ accepted
   unfolding write_verdict
-  sizes_fine = then-first _ _ accepted
+  sizes_fine = then-first _ _ passes
 
   rooms : ltb (length list) (entry_bytes * nonzeros) or ltb (length parts) nonzeros ≡ false
   unfolding write_verdict
-  rooms = refuse-not _ ShortBuffer 0 (then-first _ _ (then-second _ _ accepted))
+  rooms = refuse-not _ ShortBuffer 0 (then-first _ _ (then-second _ _ passes))
 
-  each : (t : ℕ) → t < nonzeros → nonzero_verdict m n list parts t ≡ Accepted
+  each : (t : ℕ) → t < nonzeros → nonzero_verdict m n list parts t ≡ accepted
   unfolding write_verdict
-  each t l = each_accepted (nonzero_verdict m n list parts) nonzeros t (then-second _ _ (then-second _ _ accepted)) l
+  each t l = each_accepted (nonzero_verdict m n list parts) nonzeros t (then-second _ _ (then-second _ _ passes)) l
 
-  entry_accepted : (t : ℕ) → t < nonzeros → entry_verdict m n list t ≡ Accepted
+  entry_accepted : (t : ℕ) → t < nonzeros → entry_verdict m n list t ≡ accepted
   unfolding nonzero_verdict
   entry_accepted t l = then-first (entry_verdict m n list t) (part_verdict parts t) (each t l)
 

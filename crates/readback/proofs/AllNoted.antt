@@ -1,6 +1,7 @@
 -- A text whose entries are accepted has all its lines below the size line noted in the table of cells, as many entries among them as its size line
 -- says, each standing for one nonzero or two.
 -- Assumes nothing.
+use Rattle.std.specs.Prelude.{Ok, Err}
 use mathlib.Core.Bool.{Bool, true, false, not}
 use mathlib.Core.List.{List}
 use mathlib.Core.Path.{◌≡◌, refl, sym, ◌∙◌, ap}
@@ -14,16 +15,15 @@ use Rattle.counting.specs.Tests.{◌and◌, pick, bit}
 use Rattle.counting.specs.Sums.{count}
 use Rattle.counting.proofs.Joined.{by_test, never, and_passed, and_fails_left, pick_true, pick-false}
 use Rattle.counting.proofs.Summed.{sum-none}
+use Rattle.model.specs.Refusal.{Verdict, accepted}
 use Rattle.model.specs.declared.Word.TheVariants.{Count}
-use Rattle.model.specs.declared.Verdict.{Verdict}
-use Rattle.model.specs.declared.Verdict.TheVariants.{Accepted, Refused}
 use Rattle.model.specs.Limits.{line_limit}
 use Rattle.model.proofs.Theorems.Checks.{refuse-not, then-first, then-second}
 use Rattle.scanning.specs.Lines.{empty_line}
-use Rattle.scanning.proofs.Scans.{next-after}
+use Rattle.scanning.proofs.Scans.{next_after}
 use Rattle.texts.specs.declared.Header.{Header}
 use Rattle.texts.specs.Header.{header_of}
-use Rattle.texts.specs.Entries.{no_cells, line_verdict, opened, noted, end_verdict, Entries, after, entries_from}
+use Rattle.texts.specs.Entries.{no_cells, line_verdict, opened, noted_entry, noted, end_verdict, Entries, after, entries_from}
 use Rattle.texts.proofs.Cells.{ended, later, one_line, entries_end, entries_none, entries-one}
 use Rattle.readback.specs.TextSays.{line_below, is_entry, entry_below}
 use Rattle.counting.proofs.Passed.{count_passed, count_failed}
@@ -31,13 +31,13 @@ use Rattle.readback.proofs.Table.{mark_range}
 use Rattle.readback.proofs.Entered.{CellIn, Entered, cell_before_lem, entered-none, entered-more}
 use Rattle.readback.proofs.LinesBelow.{line_more, entry_so, entry_not}
 use Rattle.readback.proofs.Mirror.{cell_below, mirror_below, mark_below, Own, own_in}
-use Rattle.readback.proofs.Noted.{Noted, noted-start, empty_more, own_free, entry_more, check_form, check_free}
+use Rattle.readback.proofs.Noted.{Noted, noted-start, empty_more, own_free, entry_more, check_entry, check_form, check_free}
 
 -- after a line the reading goes on, or its verdict is a refusal
-goes_on : (v : Verdict) (cells : List ℕ) (rest : Entries) → (after v cells rest).verdict ≡ Accepted → (v ≡ Accepted) × (after v cells rest ≡ rest)
+goes_on : (v : Verdict) (cells : List ℕ) (rest : Entries) → (after v cells rest).verdict ≡ accepted → (v ≡ accepted) × (after v cells rest ≡ rest)
 unfolding after
-goes_on Accepted cells rest e = (refl, refl)
-goes_on (Refused word place) cells rest e = never (cc)
+goes_on (Ok _) cells rest e = (refl, refl)
+goes_on (Err refusal) cells rest e = never (cc)
 
 -- an entry's line that stands for one nonzero alone
 abbrev pub is_alone : List ℕ → ℕ → Bool
@@ -82,7 +82,7 @@ module _
       }
 
   -- an entry more
-  module _ (lines seen : ℕ) (cells : List ℕ) (filled : is_entry text lines ≡ true) (v : line_verdict text h (line_below text lines) seen cells ≡ Accepted)
+  module _ (lines seen : ℕ) (cells : List ℕ) (filled : is_entry text lines ≡ true) (v : line_verdict text h (line_below text lines) seen cells ≡ accepted)
       (z : empty_line text (line_below text lines) ≡ false) (r : Reached text lines seen cells) where
     alone_more : pick (eqb (mirror_below text lines) (cell_below text lines)) 1 2 + count (is_alone text) (suc lines) ≡ count (is_alone text) lines + 2
     alone_more =
@@ -94,10 +94,10 @@ module _
         (λ y. omega (arith, pick-false {A = ℕ} 1 2 y, count_failed (is_alone text) lines (alone ∙ y)))
 
     entry_reached : Reached text (suc lines) (seen + 1) (opened h (entry_below text lines) cells)
-    unfolding line_verdict entry_below opened
+    unfolding line_verdict opened
     entry_reached =
         let at = line_below text lines in
-        let checks = sym (pick-false Accepted _ z) ∙ v in
+        let checks = sym (pick-false accepted _ z) ∙ v in
         let below = leb-false h.entries seen (refuse-not (leb h.entries seen) Count at (then-first _ _ checks)) in
         let form = check_form text lines at cells (then-second _ _ checks) in
         let free = check_free text lines at cells (then-second _ _ checks) in
@@ -127,10 +127,10 @@ module _
 
   -- one line more
   line_reached :
-      (lines seen : ℕ) (cells : List ℕ) → line_below text lines < length text → line_verdict text h (line_below text lines) seen cells ≡ Accepted →
+      (lines seen : ℕ) (cells : List ℕ) → line_below text lines < length text → line_verdict text h (line_below text lines) seen cells ≡ accepted →
       Reached text lines seen cells →
       Reached text (suc lines) (seen + bit (not (empty_line text (line_below text lines)))) (noted text h (line_below text lines) cells)
-  unfolding noted entry_below
+  unfolding noted noted_entry line_verdict
   line_reached lines seen cells there v r =
       let empty = empty_line text (line_below text lines) in
       by_test
@@ -138,11 +138,13 @@ module _
       (λ z. let none = entries_none empty z in
       let same : seen ≡ seen + bit (not empty) = omega arith in
       rw (sym same, pick_true cells _ z) (empty_reached lines seen cells z r))
-      (λ z. rw (sym (entries-one empty z), pick-false cells _ z) (entry_reached lines seen cells (entry_so text lines there z) v z r))
+      (λ z. let checks = sym (pick-false accepted _ z) ∙ v in
+      let entry = check_entry text lines (line_below text lines) cells (then-second _ _ checks) in
+      rw (sym (entries-one empty z), pick-false cells _ z, entry) (entry_reached lines seen cells (entry_so text lines there z) v z r))
 
   -- the end of the text
   end_reached :
-      (lines seen : ℕ) (cells : List ℕ) → length text ≤ line_below text lines → (ended text h seen cells).verdict ≡ Accepted →
+      (lines seen : ℕ) (cells : List ℕ) → length text ≤ line_below text lines → (ended text h seen cells).verdict ≡ accepted →
       Reached text lines seen cells → AllNoted text (ended text h seen cells).cells
   unfolding ended end_verdict
   end_reached lines seen cells over v r =
@@ -161,7 +163,7 @@ module _
   -- all lines, looking at enough of them
   lines-reached :
       (k lines seen : ℕ) (cells : List ℕ) → length text ≤ line_below text lines + k →
-      (entries_from text h k (line_below text lines) seen cells).verdict ≡ Accepted → Reached text lines seen cells →
+      (entries_from text h k (line_below text lines) seen cells).verdict ≡ accepted → Reached text lines seen cells →
       AllNoted text (entries_from text h k (line_below text lines) seen cells).cells
   unfolding later
   lines-reached zero lines seen cells enough v r =
@@ -183,7 +185,7 @@ module _
       (suc lines)
       (seen + more)
       (noted text h at cells)
-      (omega (arith, line_more text lines, next-after text at there))
+      (omega (arith, line_more text lines, next_after text at there))
       (ap (λ (x : Entries). x.verdict) (sym all) ∙ v)
       (line_reached lines seen cells there g.0 r)))
       (λ z. let over = ltb-false (line_below text lines) (length text) z in
@@ -191,7 +193,7 @@ module _
       rw end (end_reached lines seen cells over (ap (λ (x : Entries). x.verdict) (sym end) ∙ v) r))
 
   pub all_noted :
-      (entries_from text (header_of text) (length text) (header_of text).next 0 no_cells).verdict ≡ Accepted →
+      (entries_from text (header_of text) (length text) (header_of text).next 0 no_cells).verdict ≡ accepted →
       AllNoted text (entries_from text (header_of text) (length text) (header_of text).next 0 no_cells).cells
   unfolding line_below
   all_noted v =

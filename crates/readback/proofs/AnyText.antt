@@ -10,18 +10,18 @@ use lib.ListN.{length}
 use borrow.Author.Tests.{ltb-false, le-ltb}
 use Rattle.counting.specs.Tests.{◌and◌, ◌or◌}
 use Rattle.counting.specs.Sums.{count}
-use Rattle.counting.proofs.Joined.{by_test, and-other, or_fails, or_fails_left, or_fails_right, never}
+use Rattle.counting.proofs.Joined.{by_test, and-other, or_fails, or_fails_left, or_fails_right}
+use Rattle.model.specs.Refusal.{Verdict, accepted}
 use Rattle.model.specs.declared.Word.TheVariants.{ShortBuffer}
-use Rattle.model.specs.declared.Verdict.{Verdict}
-use Rattle.model.specs.declared.Verdict.TheVariants.{Accepted, Refused}
 use Rattle.model.specs.Limits.{line_limit}
 use Rattle.model.specs.Pattern.{entry_bytes}
 use Rattle.model.specs.Calls.{sizes_verdict, list_verdict}
 use Rattle.pattern.specs.Measures.{part_verdict, parts_verdict}
-use Rattle.model.proofs.Theorems.Checks.{refuse_no, then_accepted, then-first, then-second, refuse-not, each_fine, each_accepted}
+use Rattle.model.proofs.Theorems.Checks.{refuse_no, then_accepted, then-first, then-second, refuse-not, answered_by, each_fine, each_accepted}
 use Rattle.scanning.specs.Words.{is_integer}
 use Rattle.texts.specs.declared.Header.{Header}
-use Rattle.texts.specs.declared.ReadAnswer.TheVariants as read_answer
+use Rattle.texts.specs.declared.TextRead.{TextRead}
+use Rattle.texts.specs.Reading.{read_as}
 use Rattle.texts.specs.Header.{header_of, short, room_verdict, head_verdict}
 use Rattle.texts.specs.Reading.{listed, parted, entries_below, nonzeros_in, answer_read, text_verdict, below_verdict, read_verdict, cells_of, read_call, read_list, read_parts}
 use Rattle.texts.proofs.Answers.{room_sizes, room_enough, head_square, head_room, head_lines, opened_symmetric, parts-integer, list_read, parts_read}
@@ -34,17 +34,17 @@ use Rattle.readback.proofs.AllNoted.{AllNoted, all_noted}
 use Rattle.readback.proofs.Opened.{general_size, symmetric_size}
 use Rattle.readback.proofs.InOrder.{entry_accepted, list_fine, parts_fine}
 
-module _ (text list parts : List ℕ) (accepted : read_verdict text list parts ≡ Accepted) where
+module _ (text list parts : List ℕ) (passes : read_verdict text list parts ≡ accepted) where
   abbrev h : Header
   h = header_of text
 
-  head_fine : head_verdict h (length text) (length list) (length parts) ≡ Accepted
+  head_fine : head_verdict h (length text) (length list) (length parts) ≡ accepted
   unfolding read_verdict text_verdict
-  head_fine = then-first _ _ accepted
+  head_fine = then-first _ _ passes
 
-  below_fine : below_verdict text h (length list) (length parts) ≡ Accepted
+  below_fine : below_verdict text h (length list) (length parts) ≡ accepted
   unfolding read_verdict
-  below_fine = then-second _ _ accepted
+  below_fine = then-second _ _ passes
 
   pub lines : (h.m ≤ line_limit) × (h.n ≤ line_limit)
   lines = head_lines h (length text) (length list) (length parts) head_fine
@@ -74,7 +74,7 @@ module _ (text list parts : List ℕ) (accepted : read_verdict text list parts �
   pub symmetric_number : h.symmetric ≡ true → size + count (on_diagonal text) (length text) ≡ 2 * h.entries
   symmetric_number s = ap (λ k. k + count (on_diagonal text) (length text)) size_is ∙ symmetric_size all s
 
-  room_fine : room_verdict h size (length list) (length parts) ≡ Accepted
+  room_fine : room_verdict h size (length list) (length parts) ≡ accepted
   unfolding below_verdict cells_of
   room_fine =
       by_test
@@ -83,7 +83,7 @@ module _ (text list parts : List ℕ) (accepted : read_verdict text list parts �
       (λ s. ap (λ k. room_verdict h k (length list) (length parts)) (general_number s)
       ∙ head_room h (length text) (length list) (length parts) head_fine s)
 
-  pub sizes : sizes_verdict h.m h.n size ≡ Accepted
+  pub sizes : sizes_verdict h.m h.n size ≡ accepted
   sizes = room_sizes h size (length list) (length parts) room_fine
 
   rooms : ltb (length list) (entry_bytes * size) or (is_integer h.field and ltb (length parts) size) ≡ false
@@ -102,12 +102,12 @@ module _ (text list parts : List ℕ) (accepted : read_verdict text list parts �
 
   pub list-is : listed (cells_of text) (line_limit * h.m) list ≡ read_list text list parts
   unfolding read_list
-  list-is = list_read h (read_verdict text list parts) (read_verdict text list parts) refl accepted (cells_of text) (cells_of text) list _ refl refl
+  list-is = list_read h (read_verdict text list parts) (read_verdict text list parts) refl passes (cells_of text) (cells_of text) list _ refl refl
 
   pub parts_are : is_integer h.field ≡ true → parted (cells_of text) (line_limit * h.m) parts ≡ read_parts text list parts
   unfolding read_parts
   parts_are i =
-      parts_read h (read_verdict text list parts) (read_verdict text list parts) refl accepted (cells_of text) (cells_of text) parts _ refl
+      parts_read h (read_verdict text list parts) (read_verdict text list parts) refl passes (cells_of text) (cells_of text) parts _ refl
       (parts-integer h (cells_of text) parts (parted (cells_of text) (line_limit * h.m) parts) h.m i refl refl)
 
   pub gives_list : GivesList (cells_of text) (line_limit * h.m) (read_list text list parts)
@@ -127,14 +127,14 @@ module _ (text list parts : List ℕ) (accepted : read_verdict text list parts �
   parts_length : is_integer h.field ≡ true → size ≤ length (read_parts text list parts)
   parts_length i = omega (arith, ap length (parts_are i), parted-length (cells_of text) parts (line_limit * h.m), parts-room i)
 
-  list_accepted : list_verdict h.m h.n size (read_list text list parts) ≡ Accepted
+  list_accepted : list_verdict h.m h.n size (read_list text list parts) ≡ accepted
   list_accepted = list_fine entered gives_list sizes list_length
 
-  parts_accepted : is_integer h.field ≡ true → parts_verdict size (read_parts text list parts) ≡ Accepted
+  parts_accepted : is_integer h.field ≡ true → parts_verdict size (read_parts text list parts) ≡ accepted
   parts_accepted i = parts_fine entered (gives_parts i) (parts_length i)
 
   -- with any parts that are accepted
-  split_accepted : (given : List ℕ) → parts_verdict size given ≡ Accepted → write_verdict h.m h.n size (read_list text list parts) given ≡ Accepted
+  split_accepted : (given : List ℕ) → parts_verdict size given ≡ accepted → write_verdict h.m h.n size (read_list text list parts) given ≡ accepted
   unfolding write_verdict nonzero_verdict parts_verdict
   split_accepted given fine =
       then_accepted _ sizes
@@ -153,29 +153,29 @@ module _ (text list parts : List ℕ) (accepted : read_verdict text list parts �
 
 -- what an answer tells of the verdict and the header
 pub record Answered (v : Verdict) (h : Header) (size m n nonzeros : ℕ) (integer : Bool) : Type 0 where
-  pub accepted : v ≡ Accepted
+  pub accepted : v ≡ accepted
   pub m_is : h.m ≡ m
   pub n_is : h.n ≡ n
   pub nonzeros_are : size ≡ nonzeros
   pub integer_is : is_integer h.field ≡ integer
 
-answered_by :
-    (v : Verdict) (h : Header) (size m n nonzeros : ℕ) (integer : Bool) → answer_read v h size ≡ read_answer.Read m n nonzeros integer →
-    Answered v h size m n nonzeros integer
-unfolding answer_read
-answered_by Accepted h size m n nonzeros integer e =
-    record { accepted = refl; m_is = cc; n_is = cc; nonzeros_are = cc; integer_is = cc }
-answered_by (Refused word place) h size m n nonzeros integer e = never (cc)
-
 pub answered :
-    (text list parts : List ℕ) {m n nonzeros : ℕ} {integer : Bool} → read_call text list parts ≡ read_answer.Read m n nonzeros integer →
+    (text list parts : List ℕ) {m n nonzeros : ℕ} {integer : Bool} → read_call text list parts ≡ read_as m n nonzeros integer →
     Answered (read_verdict text list parts) (header_of text) (nonzeros_in (header_of text) (cells_of text)) m n nonzeros integer
-unfolding read_call
-answered text list parts e = answered_by _ _ _ _ _ _ _ e
+unfolding read_call answer_read
+answered text list parts e =
+    let same = answered_by _ _ e in
+    record {
+      accepted = same.0;
+      m_is = ap (λ (r : TextRead). r.m) same.1;
+      n_is = ap (λ (r : TextRead). r.n) same.1;
+      nonzeros_are = ap (λ (r : TextRead). r.nonzeros) same.1;
+      integer_is = ap (λ (r : TextRead). r.integer) same.1;
+    }
 
 -- a reading of any text, with its answer
-module _ (text list parts : List ℕ) (m n nonzeros : ℕ) (integer : Bool) (e : read_call text list parts ≡ read_answer.Read m n nonzeros integer) where
-  pub read_list_fine : list_verdict m n nonzeros (read_list text list parts) ≡ Accepted
+module _ (text list parts : List ℕ) (m n nonzeros : ℕ) (integer : Bool) (e : read_call text list parts ≡ read_as m n nonzeros integer) where
+  pub read_list_fine : list_verdict m n nonzeros (read_list text list parts) ≡ accepted
   read_list_fine =
       let a = answered text list parts e in
       rw (sym a.m_is, sym a.n_is, sym a.nonzeros_are) (list_accepted text list parts a.accepted)
@@ -186,13 +186,13 @@ module _ (text list parts : List ℕ) (m n nonzeros : ℕ) (integer : Bool) (e :
       let a = answered text list parts e in
       rw (sym a.nonzeros_are) (list-bytes text list parts a.accepted)
 
-  pub read_parts_fine : integer ≡ true → parts_verdict nonzeros (read_parts text list parts) ≡ Accepted
+  pub read_parts_fine : integer ≡ true → parts_verdict nonzeros (read_parts text list parts) ≡ accepted
   read_parts_fine i =
       let a = answered text list parts e in
       rw (sym a.nonzeros_are) (parts_accepted text list parts a.accepted (a.integer_is ∙ i))
 
   -- the list may be written with any parts that are accepted, and so with those that are read
-  pub read_writes : (given : List ℕ) → parts_verdict nonzeros given ≡ Accepted → write_verdict m n nonzeros (read_list text list parts) given ≡ Accepted
+  pub read_writes : (given : List ℕ) → parts_verdict nonzeros given ≡ accepted → write_verdict m n nonzeros (read_list text list parts) given ≡ accepted
   read_writes given fine =
       let a = answered text list parts e in
       rw

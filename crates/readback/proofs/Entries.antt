@@ -1,6 +1,7 @@
 -- The entries of a written text are read back into the table of cells.
 -- Assumes nothing.
 use mathlib.Core.Bool.{true, false}
+use Rattle.std.specs.Prelude.{Some}
 use mathlib.Core.List.{List}
 use mathlib.Core.Path.{◌≡◌, refl, sym, ◌∙◌, ap}
 use Prim.Native.Nat.{ℕ, zero, suc, ◌+◌, ◌^◌, ◌≤◌, ◌<◌}
@@ -10,8 +11,8 @@ use lib.Dec.{ltb}
 use lib.ListN.{length, get_or, set}
 use borrow.Author.Tests.{ne_eqb, lt-leb, le-ltb}
 use Rattle.counting.proofs.Joined.{fails, and_fails_left, or_fails, pick-false}
-use Rattle.model.specs.declared.Word.TheVariants.{EntryForm, OffMatrix, Repeated, Count, BadPart, AboveDiagonal}
-use Rattle.model.specs.declared.Verdict.TheVariants.{Accepted}
+use Rattle.model.specs.Refusal.{accepted}
+use Rattle.model.specs.declared.Word.TheVariants.{OffMatrix, Repeated, Count, BadPart, AboveDiagonal}
 use Rattle.model.specs.Pattern.{row_in, column_in}
 use Rattle.model.specs.Calls.{outside}
 use Rattle.model.proofs.Theorems.Checks.{refuse_no, then_accepted}
@@ -19,7 +20,7 @@ use Rattle.scanning.specs.declared.Field.TheVariants.{Integer}
 use Rattle.scanning.specs.declared.Numbers.{Numbers}
 use Rattle.scanning.specs.Lines.{line_next, empty_line}
 use Rattle.texts.specs.declared.Header.{Header}
-use Rattle.texts.specs.Entries.{entry_at, cell_of, no_cells, is_given, cell_mark, above_diagonal, entry_check, line_verdict, opened, noted, end_verdict, entries_from}
+use Rattle.texts.specs.Entries.{entry_at, cell_of, no_cells, is_given, cell_mark, above_diagonal, entry_check, line_verdict, opened, noted_entry, noted, end_verdict, entries_from}
 use Rattle.texts.proofs.Cells.{mirror_general, ended, entries-on, entries_end, entries-one}
 use Rattle.writing.specs.Written.{sizes_text, entry_text, entries_text}
 use Rattle.writing.proofs.Held.{Holds}
@@ -69,7 +70,7 @@ module _
   -- line t is entry t
   module _ (t : ℕ) (l : t < nonzeros) where
     abbrev entry : Numbers
-    entry = record { fine = true; first = row_in list t + 1; second = column_in list t + 1; third = get_or parts t 0 + 1 }
+    entry = record { first = row_in list t + 1; second = column_in list t + 1; third = get_or parts t 0 + 1 }
 
     held_row : Holds text (here t) (sizes_text (row_in list t + 1) (column_in list t + 1) (get_or parts t 0 + 1))
     unfolding entry_text
@@ -99,7 +100,7 @@ module _
     next =
         row_next text (here t) (row_in list t + 1) (column_in list t + 1) (get_or parts t 0 + 1) held_row row_small column_small part_small room ∙ over
 
-    entry_back : entry_at text h (here t) ≡ entry
+    entry_back : entry_at text h (here t) ≡ Some entry
     unfolding entry_at
     entry_back =
         row_numbers text (here t) (row_in list t + 1) (column_in list t + 1) (get_or parts t 0 + 1) held_row row_small column_small part_small room
@@ -113,7 +114,7 @@ module _
         (λ e. let w = table-given (cell_in list) (mark_in parts) t (cell_in list t) e in
         omega (arith, w.2, rising split.in_order w.0 t w.1 l))
 
-    check : entry_check h entry (here t) (table t) ≡ Accepted
+    check : entry_check h (Some entry) (here t) (table t) ≡ accepted
     unfolding entry_check above_diagonal
     check =
         then_accepted
@@ -122,16 +123,15 @@ module _
         _
         (then_accepted
         _
-        (then_accepted _ (refuse_no EntryForm (here t) refl)
-        ∙ refuse_no OffMatrix (here t) (or_fails (inside_range m (row_in list t) (split.row-in t l)) (inside_range n (column_in list t) (split.column-in t l))))
+        (refuse_no OffMatrix (here t) (or_fails (inside_range m (row_in list t) (split.row-in t l)) (inside_range n (column_in list t) (split.column-in t l))))
         ∙ refuse_no AboveDiagonal (here t) (and_fails_left (ltb (row_in list t + 1) (column_in list t + 1)) refl))
         ∙ refuse_no BadPart (here t) (inside_range 2 (get_or parts t 0) (omega (arith, split.part_in t l))))
         ∙ refuse_no Repeated (here t) fresh
 
-    verdict : line_verdict text h (here t) t (table t) ≡ Accepted
+    verdict : line_verdict text h (here t) t (table t) ≡ accepted
     unfolding line_verdict
     verdict =
-        pick-false Accepted _ filled
+        pick-false accepted _ filled
         ∙ then_accepted _ (refuse_no Count (here t) (lt-leb nonzeros t l))
         ∙ ap (λ e. entry_check h e (here t) (table t)) entry_back
         ∙ check
@@ -150,11 +150,11 @@ module _
         (omega (arith, table-length (cell_in list) (mark_in parts) t, split.rows, split.row-in t l, split.columns, split.column-in t l))
 
     new-table : table (suc t) ≡ noted text h (here t) (table t)
-    unfolding noted table_of
+    unfolding noted noted_entry table_of
     new-table =
         sym
         (pick-false (table t) _ filled
-        ∙ ap (λ (e : Numbers). opened h e (table t)) entry_back
+        ∙ ap (λ e. noted_entry h e (table t)) entry_back
         ∙ noted_once
         ∙ ap (λ c. set (table t) c (cell_mark (get_or parts t 0 + 1))) (cell_is (row_in list t) (column_in list t))
         ∙ ap (set (table t) (cell_in list t)) (mark-is (get_or parts t 0 + 1) (omega arith) (omega (arith, split.part_in t l))))
@@ -180,7 +180,7 @@ module _
   -- all entries are read, and nothing is refused
   pub entries-back :
       entries_from text h (length text) start 0 no_cells
-      ≡ (record { verdict = Accepted; cells = table_of (cell_in list) (mark_in parts) nonzeros })
+      ≡ (record { verdict = accepted; cells = table_of (cell_in list) (mark_in parts) nonzeros })
   unfolding ended end_verdict
   entries-back =
       sym (walked nonzeros (omega arith) ∙ first_line_lem)

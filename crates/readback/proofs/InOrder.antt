@@ -11,14 +11,13 @@ use lib.ListN.{length, get_or}
 use borrow.Author.Tests.{ltb-true, ltb-false, lt-ltb, le-ltb, lt-leb, eq-eqb}
 use Rattle.counting.specs.Sums.{count}
 use Rattle.counting.proofs.Joined.{no_way, by_test, and_intro, or_left, or_right, or_fails}
+use Rattle.model.specs.Refusal.{accepted}
 use Rattle.model.specs.declared.Word.TheVariants.{OffMatrix, BadPart, ShortBuffer, Order, SplitNumber}
-use Rattle.model.specs.declared.Verdict.TheVariants.{Accepted}
 use Rattle.model.specs.Limits.{line_limit}
 use Rattle.model.specs.Pattern.{entry_bytes, row_place, column_place, high_in, number_in, row_in, column_in}
 use Rattle.model.specs.Calls.{sizes_verdict, rises, split_number, off_matrix, entry_verdict, list_verdict}
 use Rattle.pattern.specs.Measures.{part_verdict, parts_verdict}
 use Rattle.model.proofs.Theorems.Checks.{refuse_no, then_accepted, each_fine, rows_range}
-use Rattle.pattern.proofs.Verdicts.{list-entries}
 use Rattle.texts.specs.Entries.{is_given}
 use Rattle.counting.proofs.Passed.{count_rise, passed}
 use Rattle.readback.proofs.Given.{GivesList, GivesParts}
@@ -95,19 +94,20 @@ module _ {m n nonzeros : ℕ} {cells : List ℕ} (e : Entered m n cells nonzeros
         (eq-eqb (row_in list t) (row_in list (suc t)) same)
         (lt-ltb (column_in list t) (column_in list (suc t)) (omega arith))))
 
-    pub entry_accepted : m ≤ line_limit → (t : ℕ) → t < nonzeros → entry_verdict m n list t ≡ Accepted
+    pub entry_accepted : m ≤ line_limit → (t : ℕ) → t < nonzeros → entry_verdict m n list t ≡ accepted
     unfolding entry_verdict
     entry_accepted rows t l =
         then_accepted _ (then_accepted _ (refuse_no SplitNumber t (not-split rows t l)) ∙ refuse_no OffMatrix t (inside t l))
         ∙ refuse_no Order t (ap not (in_order t l))
 
-    pub list_fine : sizes_verdict m n nonzeros ≡ Accepted → entry_bytes * nonzeros ≤ length list → list_verdict m n nonzeros list ≡ Accepted
+    pub list_fine : sizes_verdict m n nonzeros ≡ accepted → entry_bytes * nonzeros ≤ length list → list_verdict m n nonzeros list ≡ accepted
+    unfolding list_verdict
     list_fine sizes room =
-        list-entries m n nonzeros list sizes room
+        then_accepted _ (then_accepted _ sizes ∙ refuse_no ShortBuffer 0 (le-ltb (length list) (entry_bytes * nonzeros) room))
         ∙ each_fine (entry_verdict m n list) nonzeros (entry_accepted (rows_range m n nonzeros sizes).1)
 
   module _ {parts : List ℕ} (g : GivesParts cells (line_limit * m) parts) where
-    pub part_accepted : (t : ℕ) → t < nonzeros → part_verdict parts t ≡ Accepted
+    pub part_accepted : (t : ℕ) → t < nonzeros → part_verdict parts t ≡ accepted
     unfolding part_verdict
     part_accepted t l =
         let a = cell_of_lem t l in
@@ -116,7 +116,7 @@ module _ {m n nonzeros : ℕ} {cells : List ℕ} (e : Entered m n cells nonzeros
         t
         (le-ltb 1 (get_or parts t 0) (omega (arith, ap (λ k. get_or parts k 0) a.3, g.part a.0 a.1 a.2, e.mark-in a.0)))
 
-    pub parts_fine : nonzeros ≤ length parts → parts_verdict nonzeros parts ≡ Accepted
+    pub parts_fine : nonzeros ≤ length parts → parts_verdict nonzeros parts ≡ accepted
     unfolding parts_verdict
     parts_fine room =
         then_accepted _ (refuse_no ShortBuffer 0 (le-ltb (length parts) nonzeros room)) ∙ each_fine (part_verdict parts) nonzeros part_accepted

@@ -14,7 +14,7 @@ use Rattle.counting.specs.Sums.{count}
 use Rattle.counting.proofs.Joined.{by_test, fails, and_left, and_intro, and_fails_right}
 use Rattle.scanning.specs.declared.Stretch.TheVariants.{Line}
 use Rattle.scanning.specs.Lines.{line_stop, line_next, empty_line}
-use Rattle.scanning.proofs.Scans.{stretch_over, next-after, next-none}
+use Rattle.scanning.proofs.Scans.{stretch_over, next_after, next-none}
 use Rattle.readback.specs.TextSays.{line_below, is_entry}
 use Rattle.counting.proofs.Passed.{count-flat}
 
@@ -27,7 +27,7 @@ module _ (text : List ℕ) where
   next_rise at =
       by_test
       (ltb at (length text))
-      (λ z. omega (arith, next-after text at (ltb-true at (length text) z)))
+      (λ z. omega (arith, next_after text at (ltb-true at (length text) z)))
       (λ z. let l = ltb-false at (length text) z in
       omega (arith, next-none text at at (sym (stop_over at l)) l))
 
@@ -51,7 +51,7 @@ module _ (text : List ℕ) where
   lines_far (suc k) l =
       let m = line_more k in
       let b : line_below text k < length text = omega (arith, next_rise (line_below text k)) in
-      omega (arith, lines_far k b, next-after text (line_below text k) b)
+      omega (arith, lines_far k b, next_after text (line_below text k) b)
 
   pub entry_there : (k : ℕ) → is_entry text k ≡ true → line_below text k < length text
   unfolding is_entry

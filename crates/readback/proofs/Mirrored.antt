@@ -9,7 +9,7 @@ use native.Mathlib.Omega.{arith}
 use Rattle.model.specs.Pattern.{row_in, column_in}
 use Rattle.scanning.specs.declared.Numbers.{Numbers}
 use Rattle.texts.specs.declared.Header.{Header}
-use Rattle.texts.specs.declared.ReadAnswer.TheVariants as read_answer
+use Rattle.texts.specs.Reading.{read_as}
 use Rattle.texts.specs.Header.{header_of}
 use Rattle.texts.specs.Reading.{read_call, read_list, read_parts}
 use Rattle.readback.specs.TextSays.{entry_below, StandsFor, LineGives, Mirrored}
@@ -23,7 +23,7 @@ line_turned : (text : List ℕ) (k i j : ℕ) → (header_of text).symmetric ≡
 line_turned text k i j s g = record { entry = g.entry; stands = stands-turned (header_of text) (entry_below text k) i j s g.stands }
 
 pub symmetric_mirrored :
-    (text list parts : List ℕ) (m n nonzeros : ℕ) (integer : Bool) → read_call text list parts ≡ read_answer.Read m n nonzeros integer →
+    (text list parts : List ℕ) (m n nonzeros : ℕ) (integer : Bool) → read_call text list parts ≡ read_as m n nonzeros integer →
     (header_of text).symmetric ≡ true → Mirrored (read_list text list parts) (read_parts text list parts) nonzeros integer
 symmetric_mirrored text list parts m n nonzeros integer e symmetric =
     let says = text_says text list parts m n nonzeros integer e in

@@ -1,6 +1,7 @@
 -- The table of cells after the first lines below the size line: a cell is given exactly if one of these lines gives it, with that line's mark.
 -- Assumes nothing.
 use mathlib.Core.Bool.{true, false, not}
+use Rattle.std.specs.Prelude.{Option, Some, None, unwrap_or}
 use mathlib.Core.List.{List}
 use mathlib.Core.Path.{◌≡◌, refl, sym, ◌∙◌, ap}
 use mathlib.Core.Logic.{⊎_elim, inl, inr}
@@ -10,18 +11,18 @@ use native.Mathlib.Omega.{arith}
 use lib.Dec.{eqb, ltb}
 use lib.ListN.{length, get_or, set, length-set}
 use lib.Seq.{get_or-set_same, get_or-set_other}
-use borrow.Author.Tests.{eqb-true, eqb-false, ltb-false, not-false}
-use Rattle.counting.proofs.Joined.{no_way, by_test, clash, fails, and-other, or_fails_left, or_fails_right}
-use Rattle.model.specs.declared.Word.TheVariants.{EntryForm, OffMatrix, Repeated, BadPart, AboveDiagonal}
-use Rattle.model.specs.declared.Verdict.TheVariants.{Accepted}
+use borrow.Author.Tests.{eqb-true, eqb-false, ltb-false}
+use Rattle.counting.proofs.Joined.{no_way, never, by_test, clash, fails, and-other, or_fails_left, or_fails_right}
+use Rattle.model.specs.Refusal.{accepted}
+use Rattle.model.specs.declared.Word.TheVariants.{OffMatrix, Repeated, BadPart, AboveDiagonal}
 use Rattle.model.specs.Limits.{line_limit}
 use Rattle.model.specs.Calls.{outside}
 use Rattle.model.proofs.Theorems.Checks.{then-second, refuse-not, then-first, in_range}
 use Rattle.scanning.specs.declared.Numbers.{Numbers}
 use Rattle.texts.specs.declared.Header.{Header}
-use Rattle.texts.specs.Header.{header_of}
-use Rattle.texts.specs.Entries.{no_cells, is_given, above_diagonal, entry_check, opened}
-use Rattle.readback.specs.TextSays.{is_entry, entry_below, InForm}
+use Rattle.texts.specs.Header.{no_numbers, header_of}
+use Rattle.texts.specs.Entries.{no_cells, is_given, entry_at, above_diagonal, entry_check, opened}
+use Rattle.readback.specs.TextSays.{line_below, is_entry, entry_below, InForm}
 use Rattle.readback.proofs.Table.{none-there, given_mark, not-given, mark_range}
 use Rattle.readback.proofs.Mirror.{cell_below, mirror_below, mark_below, Own, own-stands, same_cell}
 
@@ -156,27 +157,41 @@ module _ {text : List ℕ} {lines : ℕ} {cells : List ℕ} (read : Noted text l
               (eq-or-lt_of_le (le_of_suc-le-suc l));
         }
 
+-- an entry that is accepted has numbers
+has_numbers : (h : Header) (e : Option Numbers) (place : ℕ) (cells : List ℕ) → entry_check h e place cells ≡ accepted → e ≡ Some (unwrap_or e no_numbers)
+unfolding entry_check
+has_numbers h None place cells fine = never (cc)
+has_numbers h (Some e) place cells fine = refl
+
 -- what the checks 3, 5, 16, 8, 6 of an entry tell
-module _ (text : List ℕ) (k place : ℕ) (cells : List ℕ) (fine : entry_check (header_of text) (entry_below text k) place cells ≡ Accepted) where
+module _
+    (text : List ℕ) (k place : ℕ) (cells : List ℕ)
+    (fine : entry_check (header_of text) (entry_at text (header_of text) (line_below text k)) place cells ≡ accepted) where
   abbrev h : Header
   h = header_of text
 
   abbrev e : Numbers
   e = entry_below text k
 
+  pub check_entry : entry_at text h (line_below text k) ≡ Some e
+  unfolding entry_below
+  check_entry = has_numbers h (entry_at text h (line_below text k)) place cells fine
+
+  checked : entry_check h (Some e) place cells ≡ accepted
+  checked = sym (ap (λ x. entry_check h x place cells) check_entry) ∙ fine
+
   pub check_form : InForm text k
   unfolding entry_check above_diagonal
   check_form =
-      let four = then-first _ _ fine in
-      let three = then-first _ _ four in
+      let three = then-first _ _ checked in
       let two = then-first _ _ three in
-      let off = refuse-not _ OffMatrix place (then-second _ _ two) in
+      let off = refuse-not _ OffMatrix place (then-first _ _ two) in
       let row = in_range h.m e.first (or_fails_left (outside h.m e.first) (outside h.n e.second) off) in
       let column = in_range h.n e.second (or_fails_right (outside h.m e.first) (outside h.n e.second) off) in
-      let above = refuse-not _ AboveDiagonal place (then-second _ _ three) in
-      let part = in_range 2 e.third (refuse-not _ BadPart place (then-second _ _ four)) in
+      let above = refuse-not _ AboveDiagonal place (then-second _ _ two) in
+      let part = in_range 2 e.third (refuse-not _ BadPart place (then-second _ _ three)) in
       record {
-        form = not-false e.fine (refuse-not (not e.fine) EntryForm place (then-first _ _ two));
+        form = check_entry;
         row_from = row.0;
         row_to = row.1;
         column_from = column.0;
@@ -188,4 +203,4 @@ module _ (text : List ℕ) (k place : ℕ) (cells : List ℕ) (fine : entry_chec
 
   pub check_free : is_given cells (cell_below text k) ≡ false
   unfolding entry_check
-  check_free = refuse-not _ Repeated place (then-second _ _ fine)
+  check_free = refuse-not _ Repeated place (then-second _ _ checked)

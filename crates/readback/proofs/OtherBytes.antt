@@ -1,16 +1,16 @@
 -- Of any text that is read, the bytes past the Nth entry of list and parts stay, and all of the parts where the text has none.
 -- Assumes nothing.
+use Rattle.std.specs.Prelude.{Ok, Err}
 use mathlib.Core.Bool.{Bool, true, false}
 use mathlib.Core.List.{List}
 use mathlib.Core.Path.{◌≡◌, refl, sym, ◌∙◌, ap}
 use Prim.Native.Nat.{ℕ, ◌*◌, ◌≤◌}
 use native.Mathlib.Omega.{arith}
 use lib.ListN.{length, get_or}
-use Rattle.model.specs.declared.Verdict.{Verdict}
-use Rattle.model.specs.declared.Verdict.TheVariants.{Accepted, Refused}
+use Rattle.model.specs.Refusal.{Verdict}
 use Rattle.model.specs.Limits.{line_limit}
 use Rattle.model.specs.Pattern.{entry_bytes}
-use Rattle.texts.specs.declared.ReadAnswer.TheVariants as read_answer
+use Rattle.texts.specs.Reading.{read_as}
 use Rattle.texts.specs.Header.{header_of}
 use Rattle.texts.specs.Reading.{output_after, parts_given, read_verdict, cells_of, read_call, read_list, read_parts}
 use Rattle.texts.proofs.Answers.{parts-other}
@@ -20,11 +20,11 @@ use Rattle.readback.proofs.AnyText.{entered, list-is, parts_are, answered}
 -- an output that is what was there
 output_same : (v : Verdict) (new old : List ℕ) → new ≡ old → output_after v new old ≡ old
 unfolding output_after
-output_same Accepted new old e = e
-output_same (Refused word place) new old e = refl
+output_same (Ok _) new old e = e
+output_same (Err refusal) new old e = refl
 
 -- a reading of any text, with its answer
-module _ (text list parts : List ℕ) (m n nonzeros : ℕ) (integer : Bool) (e : read_call text list parts ≡ read_answer.Read m n nonzeros integer) where
+module _ (text list parts : List ℕ) (m n nonzeros : ℕ) (integer : Bool) (e : read_call text list parts ≡ read_as m n nonzeros integer) where
   pub list-stays :
       (length (read_list text list parts) ≡ length list)
       × ((i : ℕ) → entry_bytes * nonzeros ≤ i → get_or (read_list text list parts) i 0 ≡ get_or list i 0)

@@ -5,10 +5,10 @@ use mathlib.Core.List.{List}
 use mathlib.Core.Path.{◌≡◌}
 use Prim.Native.Nat.{ℕ, ◌*◌, ◌≤◌}
 use lib.ListN.{length}
-use Rattle.model.specs.declared.Verdict.TheVariants.{Accepted}
+use Rattle.model.specs.Refusal.{accepted}
 use Rattle.model.specs.Pattern.{entry_bytes}
 use Rattle.pattern.specs.Measures.{parts_verdict}
-use Rattle.texts.specs.declared.ReadAnswer.TheVariants as read_answer
+use Rattle.texts.specs.Reading.{read_as}
 use Rattle.texts.specs.Reading.{read_call, read_list, read_parts}
 use Rattle.writing.specs.declared.Figures.{Figures}
 use Rattle.writing.specs.Written.{text_of}
@@ -17,10 +17,10 @@ use Rattle.readback.proofs.ReadsBack.{reads_back}
 use Rattle.readback.proofs.AnyText.{read_bytes, read_parts_fine, read_writes}
 
 module _
-    (text list parts : List ℕ) (m n nonzeros : ℕ) (integer : Bool) (e : read_call text list parts ≡ read_answer.Read m n nonzeros integer)
+    (text list parts : List ℕ) (m n nonzeros : ℕ) (integer : Bool) (e : read_call text list parts ≡ read_as m n nonzeros integer)
     (f : Figures) (list-slice parts-slice : List ℕ) (list-room : entry_bytes * nonzeros ≤ length list-slice) (parts-room : nonzeros ≤ length parts-slice) where
   pub list_reads_back :
-      (given : List ℕ) → parts_verdict nonzeros given ≡ Accepted →
+      (given : List ℕ) → parts_verdict nonzeros given ≡ accepted →
       ReadsAs (text_of m n nonzeros (read_list text list parts) given f) m n nonzeros (read_list text list parts) given list-slice parts-slice
   list_reads_back given fine =
       reads_back m n nonzeros (read_list text list parts) given f list-slice parts-slice (read_bytes text list parts m n nonzeros integer e) (read_writes text list parts m n nonzeros integer e given fine) list-room parts-room

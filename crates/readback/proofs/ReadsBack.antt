@@ -9,14 +9,14 @@ use lib.ListN.{length}
 use borrow.Author.Tests.{le-ltb}
 use Rattle.counting.specs.Sums.{count}
 use Rattle.counting.proofs.Joined.{or_fails, and_fails_right, pick-false}
+use Rattle.model.specs.Refusal.{accepted}
 use Rattle.model.specs.declared.Word.TheVariants.{Banner, SizeLine, TooBig, ShortBuffer}
-use Rattle.model.specs.declared.Verdict.TheVariants.{Accepted}
 use Rattle.model.specs.Limits.{line_limit}
 use Rattle.model.specs.Pattern.{entry_bytes}
 use Rattle.model.proofs.Theorems.Checks.{refuse_no, then_accepted}
 use Rattle.scanning.specs.Checks.{moved}
 use Rattle.texts.specs.declared.Header.{Header}
-use Rattle.texts.specs.declared.ReadAnswer.TheVariants as read_answer
+use Rattle.texts.specs.Reading.{read_as}
 use Rattle.texts.specs.Header.{text_limit, header_of, short, size_line_verdict, room_verdict, square_verdict, head_verdict}
 use Rattle.texts.specs.Entries.{no_cells, is_given, Entries, entries_from}
 use Rattle.texts.specs.Reading.{listed, parted, entries_below, nonzeros_in, below_verdict, read_call, read_list, read_parts}
@@ -68,15 +68,15 @@ module _
   unfolding short
   room = or_fails (le-ltb (length list-slice) (entry_bytes * nonzeros) list-room) (and_fails_right true (le-ltb (length parts-slice) nonzeros parts-room))
 
-  sizes_moved : size_line_verdict h nonzeros ≡ Accepted
-  unfolding size_line_verdict moved
+  sizes_moved : size_line_verdict h nonzeros ≡ accepted
+  unfolding size_line_verdict
   sizes_moved = ap (λ v. moved v (size_at f)) split.sizes
 
-  room_fine : room_verdict h nonzeros (length list-slice) (length parts-slice) ≡ Accepted
+  room_fine : room_verdict h nonzeros (length list-slice) (length parts-slice) ≡ accepted
   unfolding room_verdict
   room_fine = then_accepted _ sizes_moved ∙ refuse_no ShortBuffer 0 room
 
-  head_fine : head_verdict h (length text) (length list-slice) (length parts-slice) ≡ Accepted
+  head_fine : head_verdict h (length text) (length list-slice) (length parts-slice) ≡ accepted
   unfolding head_verdict
   head_fine =
       let limit : length text ≤ text_limit = omega (arith, text_fits split f, ap length (text-laid m n nonzeros list parts f)) in
@@ -94,7 +94,7 @@ module _
       rw (sizes_length (size_at f) m n nonzeros) at
       (holds_right (sizes_text m n nonzeros) (entries_text list parts nonzeros) (after_comment f m n nonzeros (entries_text list parts nonzeros) m_small n_small nonzeros_small))
 
-  all_read : entries_from text h (length text) start 0 no_cells ≡ (record { verdict = Accepted; cells = table })
+  all_read : entries_from text h (length text) start 0 no_cells ≡ (record { verdict = accepted; cells = table })
   all_read =
       entries-back
       text
@@ -104,40 +104,40 @@ module _
       held_entries
       (text-length f m n nonzeros (entries_text list parts nonzeros) m_small n_small nonzeros_small)
 
-  verdict_read : Accepted ≡ (entries_from text h (length text) start 0 no_cells).verdict
+  verdict_read : accepted ≡ (entries_from text h (length text) start 0 no_cells).verdict
   verdict_read = sym (ap (λ (e : Entries). e.verdict) all_read)
 
   cells_read : table ≡ (entries_from text h (length text) start 0 no_cells).cells
   cells_read = sym (ap (λ (e : Entries). e.cells) all_read)
 
-  below_fine : Accepted ≡ below_verdict text h (length list-slice) (length parts-slice)
+  below_fine : accepted ≡ below_verdict text h (length list-slice) (length parts-slice)
   below_fine =
-      below_is text h no_cells refl Accepted Accepted Accepted table (count (is_given table) (line_limit * m)) (length list-slice) (length parts-slice) verdict_read cells_read refl
+      below_is text h no_cells refl accepted accepted accepted table (count (is_given table) (line_limit * m)) (length list-slice) (length parts-slice) verdict_read cells_read refl
       (opened_general h (count (is_given table) (line_limit * m)) (length list-slice) (length parts-slice) refl)
-      (sym (then_accepted Accepted refl))
+      (sym (then_accepted accepted refl))
 
   cells_are_table : table ≡ (entries_below text h).cells
   cells_are_table = cells_are text h no_cells refl table cells_read
 
-  answer_back : read_call text list-slice parts-slice ≡ read_answer.Read m n nonzeros true
+  answer_back : read_call text list-slice parts-slice ≡ read_as m n nonzeros true
   answer_back =
       sym
-      (read_answer-is text list-slice parts-slice h Accepted header (sym head_fine) (read_answer.Read m n nonzeros true) refl
-      (answer-read h Accepted (below_verdict text h (length list-slice) (length parts-slice)) below_fine refl nonzeros (nonzeros_in h (entries_below text h).cells) true
+      (read_answer-is text list-slice parts-slice h accepted header (sym head_fine) (read_as m n nonzeros true) refl
+      (answer-read h accepted (below_verdict text h (length list-slice) (length parts-slice)) below_fine refl nonzeros (nonzeros_in h (entries_below text h).cells) true
       (nonzeros_are text h no_cells refl table nonzeros cells_read (sym (all_given split)))
       refl))
 
   list-is : read_list text list-slice parts-slice ≡ listed table (line_limit * m) list-slice
   list-is =
       sym
-      (read_list-is text list-slice parts-slice h Accepted header (sym head_fine) (listed table (line_limit * m) list-slice) refl
-      (list_read h Accepted (below_verdict text h (length list-slice) (length parts-slice)) below_fine refl table (entries_below text h).cells list-slice (listed table (line_limit * m) list-slice) cells_are_table refl))
+      (read_list-is text list-slice parts-slice h accepted header (sym head_fine) (listed table (line_limit * m) list-slice) refl
+      (list_read h accepted (below_verdict text h (length list-slice) (length parts-slice)) below_fine refl table (entries_below text h).cells list-slice (listed table (line_limit * m) list-slice) cells_are_table refl))
 
   parts_are : read_parts text list-slice parts-slice ≡ parted table (line_limit * m) parts-slice
   parts_are =
       sym
-      (read_parts-is text list-slice parts-slice h Accepted header (sym head_fine) (parted table (line_limit * m) parts-slice) refl
-      (parts_read h Accepted (below_verdict text h (length list-slice) (length parts-slice)) below_fine refl table (entries_below text h).cells parts-slice (parted table (line_limit * m) parts-slice) cells_are_table
+      (read_parts-is text list-slice parts-slice h accepted header (sym head_fine) (parted table (line_limit * m) parts-slice) refl
+      (parts_read h accepted (below_verdict text h (length list-slice) (length parts-slice)) below_fine refl table (entries_below text h).cells parts-slice (parted table (line_limit * m) parts-slice) cells_are_table
       (parts-integer h table parts-slice (parted table (line_limit * m) parts-slice) m refl refl refl)))
 
   list-filled : Filled (listed table (line_limit * m) list-slice) list list-slice (entry_bytes * nonzeros)
@@ -184,7 +184,7 @@ module _
 -- for every split of bytes that the writer accepts, all figures, and slices with room for it
 pub reads_back :
     (m n nonzeros : ℕ) (list parts : List ℕ) (f : Figures) (list-slice parts-slice : List ℕ) →
-    Bytes list (entry_bytes * nonzeros) → write_verdict m n nonzeros list parts ≡ Accepted →
+    Bytes list (entry_bytes * nonzeros) → write_verdict m n nonzeros list parts ≡ accepted →
     entry_bytes * nonzeros ≤ length list-slice → nonzeros ≤ length parts-slice →
     ReadsAs (text_of m n nonzeros list parts f) m n nonzeros list parts list-slice parts-slice
 reads_back m n nonzeros list parts f list-slice parts-slice bytes accepted list-room parts-room =

@@ -10,7 +10,7 @@ use Rattle.counting.proofs.Joined.{both_ways}
 use Rattle.counting.proofs.Counted.{count_eq}
 use Rattle.model.specs.Limits.{line_limit}
 use Rattle.model.specs.Pattern.{with_entry}
-use Rattle.texts.specs.declared.ReadAnswer.TheVariants as read_answer
+use Rattle.texts.specs.Reading.{read_as}
 use Rattle.texts.specs.Header.{header_of}
 use Rattle.texts.specs.Entries.{is_given}
 use Rattle.texts.specs.Reading.{list_cell, listed, nonzeros_in, cells_of, read_call, read_list}
@@ -37,8 +37,8 @@ module _ (one other : List ℕ) (same : (p : ℕ) → is_given one p ≡ is_give
 
 module _
     (one other list parts : List ℕ) {m n nonzeros m' n' nonzeros' : ℕ} {integer integer' : Bool} (alike : SameNonzeros one other)
-    (e : read_call one list parts ≡ read_answer.Read m n nonzeros integer)
-    (f : read_call other list parts ≡ read_answer.Read m' n' nonzeros' integer') where
+    (e : read_call one list parts ≡ read_as m n nonzeros integer)
+    (f : read_call other list parts ≡ read_as m' n' nonzeros' integer') where
   given_same : (p : ℕ) → is_given (cells_of one) p ≡ is_given (cells_of other) p
   given_same p =
       both_ways

@@ -1,15 +1,16 @@
 -- A reading refuses nothing for a cap.
 -- Assumes nothing.
+use Rattle.std.specs.Prelude.{Ok, Err}
 use mathlib.Core.Bool.{Bool, true, false}
+use Rattle.std.specs.Prelude.{Option, Some, None}
 use mathlib.Core.List.{List}
 use mathlib.Core.Path.{refl}
 use Prim.Native.Nat.{ℕ, zero, suc}
 use lib.Dec.{ltb}
 use lib.ListN.{length}
 use Rattle.counting.specs.Tests.{◌or◌, pick}
+use Rattle.model.specs.Refusal.{Verdict}
 use Rattle.model.specs.declared.Word.TheVariants.{Banner, SizeLine, EntryForm, TooBig, OffMatrix, Repeated, Count, BadPart, ShortBuffer, NotSquare, AboveDiagonal}
-use Rattle.model.specs.declared.Verdict.{Verdict}
-use Rattle.model.specs.declared.Verdict.TheVariants.{Accepted, Refused}
 use Rattle.model.proofs.Theorems.Spared.{Spares, accepted_spares, refused_spares, refuse_spares, ◌also◌, pick_spares, for_cap, word_for_cap, sizes_spare}
 use Rattle.scanning.specs.Checks.{moved}
 use Rattle.scanning.specs.declared.Numbers.{Numbers}
@@ -20,9 +21,8 @@ use Rattle.texts.specs.Reading.{entries_below, opened_verdict, text_verdict, bel
 
 -- the same words at another place
 moved_spares : (v : Verdict) (place : ℕ) → Spares word_for_cap v → Spares word_for_cap (moved v place)
-unfolding moved
-moved_spares Accepted place h = accepted_spares
-moved_spares (Refused word at) place h = refused_spares word place (h.spared word at refl)
+moved_spares (Ok _) place h = accepted_spares
+moved_spares (Err refusal) place h = refused_spares refusal.word place (h.spared refusal.word refusal.place refl)
 
 -- before the entries
 module _ (h : Header) where
@@ -47,11 +47,11 @@ module _ (h : Header) where
       also pick_spares h.symmetric _ _ square_spares (room_spares h.entries list parts)
 
   -- an entry, a line, and the end of the text
-  check_spares : (e : Numbers) (place : ℕ) (cells : List ℕ) → Spares word_for_cap (entry_check h e place cells)
+  check_spares : (e : Option Numbers) (place : ℕ) (cells : List ℕ) → Spares word_for_cap (entry_check h e place cells)
   unfolding entry_check for_cap ◌or◌
-  check_spares e place cells =
-      refuse_spares _ EntryForm _ refl
-      also refuse_spares _ OffMatrix _ refl
+  check_spares None place cells = refused_spares EntryForm place refl
+  check_spares (Some e) place cells =
+      refuse_spares _ OffMatrix _ refl
       also refuse_spares _ AboveDiagonal _ refl
       also refuse_spares _ BadPart _ refl
       also refuse_spares _ Repeated _ refl
@@ -68,8 +68,8 @@ module _ (h : Header) where
   -- the lines of the text
   after_spares : (v : Verdict) (cells : List ℕ) (rest : Entries) → Spares word_for_cap v → Spares word_for_cap rest.verdict → Spares word_for_cap (after v cells rest).verdict
   unfolding after
-  after_spares Accepted cells rest first second = second
-  after_spares (Refused word place) cells rest first second = first
+  after_spares (Ok _) cells rest first second = second
+  after_spares (Err refusal) cells rest first second = first
 
   either_spares : (b : Bool) (one other : Entries) → Spares word_for_cap one.verdict → Spares word_for_cap other.verdict → Spares word_for_cap (pick b one other).verdict
   unfolding pick

@@ -12,11 +12,11 @@ use lib.ListN.{length, get_or}
 use borrow.Author.Tests.{eqb-true, eqb-false, ltb-true, ltb-false}
 use Rattle.counting.specs.Sums.{count}
 use Rattle.counting.proofs.Joined.{by_test}
-use Rattle.model.specs.declared.Verdict.TheVariants.{Accepted}
+use Rattle.model.specs.Refusal.{accepted}
 use Rattle.model.specs.Limits.{line_limit}
 use Rattle.model.specs.Pattern.{row_in, column_in}
 use Rattle.texts.specs.declared.Header.{Header}
-use Rattle.texts.specs.declared.ReadAnswer.TheVariants as read_answer
+use Rattle.texts.specs.Reading.{read_as}
 use Rattle.texts.specs.Header.{header_of}
 use Rattle.texts.specs.Entries.{is_given}
 use Rattle.texts.specs.Reading.{read_verdict, cells_of, read_call, read_list, read_parts}
@@ -132,8 +132,8 @@ module _
   entries-number = entries_all text whole.lines whole.over (is_entry text) (λ k e. e) ∙ whole.number
 
 -- of a text that is read, a cell is given exactly if a line gives it
-module _ (text list parts : List ℕ) {m n nonzeros : ℕ} {integer : Bool} (e : read_call text list parts ≡ read_answer.Read m n nonzeros integer) where
-  abbrev v : read_verdict text list parts ≡ Accepted
+module _ (text list parts : List ℕ) {m n nonzeros : ℕ} {integer : Bool} (e : read_call text list parts ≡ read_as m n nonzeros integer) where
+  abbrev v : read_verdict text list parts ≡ accepted
   v = (answered text list parts e).accepted
 
   pub cell_says : (p : ℕ) → is_given (cells_of text) p ≡ true → TextGives text (p / line_limit + 1) (p % line_limit + 1)
@@ -147,7 +147,7 @@ module _ (text list parts : List ℕ) {m n nonzeros : ℕ} {integer : Bool} (e :
 
 -- what a text that is read says
 pub text_says :
-    (text list parts : List ℕ) (m n nonzeros : ℕ) (integer : Bool) → read_call text list parts ≡ read_answer.Read m n nonzeros integer →
+    (text list parts : List ℕ) (m n nonzeros : ℕ) (integer : Bool) → read_call text list parts ≡ read_as m n nonzeros integer →
     TextSays text (read_list text list parts) (read_parts text list parts) m n nonzeros integer
 text_says text list parts m n nonzeros integer e =
     let a = answered text list parts e in

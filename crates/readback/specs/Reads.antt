@@ -2,7 +2,7 @@
 -- Assumes nothing.
 use Rattle.std.specs.Prelude.{true, List, ◌≡◌, ℕ, ◌*◌, ◌≤◌, ◌<◌, length, get_or}
 use Rattle.model.specs.Pattern.{entry_bytes}
-use Rattle.texts.specs.declared.ReadAnswer.TheVariants as read_answer
+use Rattle.texts.specs.Reading.{read_as}
 use Rattle.texts.specs.Reading.{read_call, read_list, read_parts}
 
 -- the first numbers of a list are bytes, as every number of a slice of bytes is
@@ -17,6 +17,6 @@ pub record Filled (new bytes old : List ℕ) (size : ℕ) : Type 0 where
 
 -- read into two slices, a text gives this split
 pub record ReadsAs (text : List ℕ) (m n nonzeros : ℕ) (list parts list-slice parts-slice : List ℕ) : Type 0 where
-  pub answer : read_call text list-slice parts-slice ≡ read_answer.Read m n nonzeros true
+  pub answer : read_call text list-slice parts-slice ≡ read_as m n nonzeros true
   pub list_back : Filled (read_list text list-slice parts-slice) list list-slice (entry_bytes * nonzeros)
   pub parts_back : Filled (read_parts text list-slice parts-slice) parts parts-slice nonzeros

@@ -33,7 +33,7 @@ unfolding lining
 entry_number = refl
 
 -- they give (2, 2) and (1, 1)
-entries : (entry_below worked 0 ≡ (record { fine = true; first = 2; second = 2; third = 1 })) × (entry_below worked 2 ≡ (record { fine = true; first = 1; second = 1; third = 1 }))
+entries : (entry_below worked 0 ≡ (record { first = 2; second = 2; third = 1 })) × (entry_below worked 2 ≡ (record { first = 1; second = 1; third = 1 }))
 unfolding lining
 entries = (refl, refl)
 

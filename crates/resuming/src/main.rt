@@ -7,68 +7,62 @@
 mod order;
 mod repeating;
 
-use crate::order::{Order, order_of};
-use crate::repeating::{Showings, rounds_from, run_once, show_often};
-use model::limits::LIST_ROOM;
-use model::{Search, ShowAnswer, Verdict};
+use crate::order::Order;
+use crate::repeating::Showings;
+use input::read_full;
+use model::{Search, Shown};
+use std::io;
+use testing::cases::Cases;
 use testing::laying::first;
-use testing::saying::{say, say_number, say_refused, say_which};
+use testing::saying::say_refused;
 
 // What the last showing answered, and the sum of all answers.
-fn say_showings(showings: Showings) {
-    let last = showings.last;
-    match last {
-        ShowAnswer::Split { volume, floor } => {
-            say_number(b" volume ", volume);
-            say_number(b" floor ", floor);
-        }
-        ShowAnswer::NoneYet { floor } => say_number(b" none yet floor ", floor),
-        ShowAnswer::Refused(word, place) => say_refused(word, place),
+fn say_showings(rt: &impl Print, showings: Showings) -> io::Result<()> {
+    match showings.last {
+        Ok(Shown::Split { volume, floor }) => print!(rt; " volume {volume} floor {floor}")?,
+        Ok(Shown::NoneYet { floor }) => print!(rt; " none yet floor {floor}")?,
+        Err(refusal) => say_refused(rt, refusal)?,
     }
-    say_number(b" sum ", showings.sum);
+    print!(rt; " sum {}", showings.sum)
 }
 
 // Runs and shows a search, and prints what it came to.
-fn resume(order: Order, search: Search, list: &[u8]) {
-    let begun = run_once(order, search, list, order.tries);
-    let after = rounds_from(order, begun, list);
-    let showings = show_often(order, after, list);
-    say_number(b"tries ", after.tries);
-    say_number(b" looks ", after.looks);
-    say_number(b" best ", after.best_count);
-    say_which(after.complete, b" complete", b" stopped");
+fn resume(rt: &impl Print, order: &Order, search: Search) -> io::Result<()> {
+    let begun = order.run(search, order.tries);
+    let after = order.run_rounds(begun);
+    let showings = order.show(after);
+    let (tries, looks, best) = (after.tries, after.looks, after.best_count);
+    let state = if after.complete {
+        "complete"
+    } else {
+        "stopped"
+    };
+    print!(rt; "tries {tries} looks {looks} best {best} {state}")?;
     if 0 < order.showings {
-        say_showings(showings);
+        say_showings(rt, showings)?;
     }
-    say(b"\n");
+    println!(rt)
 }
 
 // Opens the search of an order, and goes on with it.
-fn answer(order: Order, list: &[u8]) {
-    let opened = search::open(
-        order.m,
-        order.n,
-        order.nonzeros,
-        list,
-        order.cap0,
-        order.cap1,
-    );
-    let verdict = opened.verdict;
-    match verdict {
-        Verdict::Accepted => resume(order, opened.search, list),
-        Verdict::Refused(word, place) => {
-            say(b"open");
-            say_refused(word, place);
-            say(b"\n");
+fn answer(rt: &impl Print, order: &Order) -> io::Result<()> {
+    match order.open() {
+        Ok(search) => resume(rt, order, search),
+        Err(refusal) => {
+            print!(rt; "open")?;
+            say_refused(rt, refusal)?;
+            println!(rt)
         }
     }
 }
 
 // Reads the pattern and the numbers.
-fn main() {
-    let mut input = [0u8; 65536];
-    let mut list = [0u8; LIST_ROOM];
-    let len = io::read_full(0, &mut input);
-    let order = order_of(first(&input, len), &mut list);
-    answer(order, first(&list, order.len));
+fn main(rt: HostRuntime) -> io::Result<()> {
+    let mut page = [0u8; 65536];
+    let len = read_full(&mut rt.reader(), &mut page)?;
+    let order = Order::read(&mut Cases {
+        text: first(&page, len),
+        at: 0,
+    });
+    answer(&rt, &order)
 }

@@ -1,16 +1,14 @@
 // What the input asks for.
-use testing::cases::{list_at, number_at};
+use model::{Caps, Refusal, Search};
+use testing::cases::Cases;
+use testing::patterns::Pattern;
 
-// A pattern's numbers and caps, and how many bytes its list has; the tries that are made first; how many rounds there are, the runs of a round
-// and the budget of each; and how many showings.
+// A pattern and its caps; the tries that are made first; how many rounds there are, the runs of a round and the budget of each; and how many
+// showings.
 #[derive(Clone, Copy)]
 pub(crate) struct Order {
-    pub m: u64,
-    pub n: u64,
-    pub nonzeros: u64,
-    pub cap0: u64,
-    pub cap1: u64,
-    pub len: usize,
+    pub pattern: Pattern,
+    pub caps: Caps,
     pub tries: u64,
     pub rounds: u64,
     pub runs: u64,
@@ -18,30 +16,33 @@ pub(crate) struct Order {
     pub showings: u64,
 }
 
-// The order of an input, whose cells are laid out in a list.
-pub(crate) fn order_of(input: &[u8], list: &mut [u8]) -> Order {
-    let m = number_at(input, 0);
-    let n = number_at(input, m.next);
-    let nonzeros = number_at(input, n.next);
-    let cap0 = number_at(input, nonzeros.next);
-    let cap1 = number_at(input, cap0.next);
-    let cells = list_at(input, cap1.next, list);
-    let tries = number_at(input, cells.next);
-    let rounds = number_at(input, tries.next);
-    let runs = number_at(input, rounds.next);
-    let budget = number_at(input, runs.next);
-    let showings = number_at(input, budget.next);
-    Order {
-        m: m.value,
-        n: n.value,
-        nonzeros: nonzeros.value,
-        cap0: cap0.value,
-        cap1: cap1.value,
-        len: cells.value as usize,
-        tries: tries.value,
-        rounds: rounds.value,
-        runs: runs.value,
-        budget: budget.value,
-        showings: showings.value,
+impl Order {
+    // The order of an input.
+    pub(crate) fn read(cases: &mut Cases<'_>) -> Order {
+        let mut pattern = cases.sizes();
+        let caps = cases.caps();
+        cases.cells(&mut pattern);
+        Order {
+            pattern,
+            caps,
+            tries: cases.number(),
+            rounds: cases.number(),
+            runs: cases.number(),
+            budget: cases.number(),
+            showings: cases.number(),
+        }
+    }
+
+    // What the opening of its search answers.
+    pub(crate) fn open(&self) -> Result<Search, Refusal> {
+        let pattern = &self.pattern;
+        search::open(
+            pattern.m,
+            pattern.n,
+            pattern.nonzeros,
+            pattern.list(),
+            self.caps.cap0,
+            self.caps.cap1,
+        )
     }
 }

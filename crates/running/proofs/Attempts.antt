@@ -21,7 +21,9 @@ use Rattle.model.proofs.Order.Places.{line_at_lem}
 use Rattle.model.proofs.Theorems.OfList.{rules_k, rules-valid}
 use Rattle.keeping.specs.Kept.{marking_with, Holds}
 use Rattle.keeping.proofs.Holding.{holds_eq}
+use Rattle.running.specs.declared.kept.Kept.{Kept}
 use Rattle.running.specs.declared.walking.Tried.{Tried}
+use Rattle.running.specs.Kept.{Keeps}
 use Rattle.running.specs.Judging.{Topped}
 use Rattle.running.specs.Walking.{Next, Attempted}
 use Rattle.running.proofs.Behind.{standing-longer, marking-next, next_free, next-valid, next_topped}
@@ -70,27 +72,27 @@ module _ {P : Pattern} {caps : Caps} {τ : List ℕ} {l p : ℕ} (inside : Insid
       (sym (e ∙ ap (line_count P) n.there))
       (next_topped P τ n.room p (standing-longer n.standing (omega (arith, n.room, rules_k P caps)) n.mark (sym (rules-valid P caps (p ∷ τ)) ∙ fits)).marks thin)
 
-  module _ {best : ℕ} {marks by left kinds tally sums loads : List ℕ} (r : Tried) where
+  module _ {best : ℕ} {kept : Kept} (r : Tried) where
     -- the mark does not fit
     pub attempt_unfit :
         r.stands ≡ false → r.looks ≡ 0 → valid P caps (marking P (p ∷ τ)) ≡ false →
-        Holds P (marking P τ) marks by left kinds tally sums loads →
-        Attempted P caps τ p best r marks by left kinds tally sums loads
+        Keeps P (marking P τ) kept →
+        Attempted P caps τ p best r kept
     unfolding rules_of looks_at
     attempt_unfit down none unfit h =
         record {
           stands_is = down ∙ sym (and_fails_left (ltb (bound P caps (marking P (p ∷ τ))) best) unfit);
           least_is = λ up. clash up down;
           looks_is = none ∙ sym (pick-false (looks P (marking P (p ∷ τ))) 0 unfit);
-          holds = subst (λ (ρ : List ℕ). Holds P (marking P ρ) marks by left kinds tally sums loads) (sym (pick-false (p ∷ τ) τ down)) h;
+          holds = subst (λ (ρ : List ℕ). Keeps P (marking P ρ) kept) (sym (pick-false (p ∷ τ) τ down)) h;
         }
 
     -- it fits, and the bound decides
     pub attempt_fit :
         valid P caps (marking P (p ∷ τ)) ≡ true → r.least ≡ min (bound P caps (marking P (p ∷ τ))) best → r.stands ≡ ltb r.least best →
         r.looks ≡ looks P (marking P (p ∷ τ)) →
-        Holds P (marking P (pick r.stands (p ∷ τ) τ)) marks by left kinds tally sums loads →
-        Attempted P caps τ p best r marks by left kinds tally sums loads
+        Keeps P (marking P (pick r.stands (p ∷ τ) τ)) kept →
+        Attempted P caps τ p best r kept
     unfolding rules_of looks_at
     attempt_fit fits is up looked h =
         record {

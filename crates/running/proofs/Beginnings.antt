@@ -2,7 +2,7 @@
 -- Assumes nothing.
 use mathlib.Core.Bool.{true}
 use mathlib.Core.List.{List, [], ◌∷◌}
-use mathlib.Core.Path.{◌≡◌, refl, sym, ◌∙◌, ap, subst}
+use mathlib.Core.Path.{◌≡◌, refl, sym, ◌∙◌, ap}
 use Prim.Native.Nat.{ℕ, zero, suc, ◌+◌, ◌*◌, ◌≤◌, ◌<◌}
 use native.Mathlib.Omega.{arith}
 use lib.Dec.{eqb}
@@ -11,9 +11,13 @@ use borrow.Author.Tests.{eqb-true, eqb-false, leb-true}
 use Rattle.counting.proofs.Joined.{by_test, and_left, and_right}
 use Rattle.trail.specs.Trail.{mark_room, top_of, with_mark, dropped, dropped_at}
 use Rattle.trail.proofs.Methods.{at_none}
+use Rattle.model.specs.Refusal.{accepted}
 use Rattle.model.specs.declared.Caps.{Caps}
 use Rattle.model.specs.declared.Search.{Search}
-use Rattle.model.specs.Limits.{line_room}
+use Rattle.model.specs.Calls.{list_verdict}
+use Rattle.model.specs.Limits.{line_room, line_limit}
+use Rattle.matching.specs.Starts.{side_room, row_start}
+use Rattle.marking.specs.Order.{total_by}
 use Rattle.model.specs.Pattern.{Pattern, pattern_of, lines, line_count}
 use Rattle.model.specs.Marking.{place, mark_at, marking, unmarked, valid}
 use Rattle.model.specs.Walk.{rules_of}
@@ -25,6 +29,8 @@ use Rattle.model.proofs.Order.RulesSound.{takes-none-valid}
 use Rattle.model.proofs.Theorems.OfList.{rules_k, rules-valid}
 use Rattle.model.proofs.Walk.Legal.{Legal}
 use Rattle.packing.specs.Packed.{earlier}
+use Rattle.pattern.specs.declared.matrix.Matrix.{Matrix}
+use Rattle.pattern.specs.Matrix.{pattern_in}
 use Rattle.pattern.specs.Room.{within}
 use Rattle.marking.specs.Marks.{unmarked_lines}
 use Rattle.marking.proofs.Trails.{dropped-is}
@@ -32,14 +38,17 @@ use Rattle.crossing.specs.Tables.{Limited, StartsOf, OrderOf, LaidFrom}
 use Rattle.crossing.proofs.OfList.{list_limited, list-lines, lines-counted}
 use Rattle.weighing.specs.Cells.{marking_in}
 use Rattle.bound.specs.Evaluated.{Listed, Placed}
-use Rattle.bound.proofs.Evaluations.{listed_few}
 use Rattle.keeping.specs.Tied.{tally_room}
 use Rattle.keeping.proofs.Holding.{holds_eq}
-use Rattle.running.specs.declared.laying.Kept.{Kept}
+use Rattle.state.proofs.Accepting.{accepted_ready}
+use Rattle.running.specs.declared.kept.Kept.{Kept}
+use Rattle.running.specs.declared.tables.Tables.{Tables}
 use Rattle.running.specs.Arrays.{Zeros, Neutral}
-use Rattle.running.specs.Walking.{Standing, LineTables, Tabled}
-use Rattle.running.specs.Laying.{Keeps, first_marks, Keepable}
-use Rattle.running.specs.Run.{pattern_in, Readied}
+use Rattle.running.specs.Tabled.{TablesOf}
+use Rattle.running.specs.Walking.{Standing}
+use Rattle.running.specs.Kept.{Keeps}
+use Rattle.running.specs.Laying.{first_marks, Keepable}
+use Rattle.running.specs.Run.{Startable}
 use Rattle.running.proofs.Empty.{Blank}
 use Rattle.running.proofs.Turns.{legal_standing}
 use Rattle.running.proofs.Firsts.{first-before}
@@ -113,118 +122,94 @@ pub listed_limited : {m n nonzeros : ℕ} {list rows : List ℕ} → Listed m n 
 listed_limited {m} {n} {nonzeros} {list} l =
     list_limited m n nonzeros list l.rows_small l.columns_small l.small l.inside l.thin
 
--- the tables of its lines, as they are made
-pub lines_tabled :
-    {m n nonzeros : ℕ} {list rows counts starts cross : List ℕ} (total : ℕ) → Listed m n nonzeros list rows → total ≡ within (m + n) →
-    length counts ≡ line_room → ((l : ℕ) → l < line_room → get_or counts l 0 ≡ line_count (pattern_of m n nonzeros list) l) →
-    length starts ≡ line_room → StartsOf total counts starts → LaidFrom (pattern_of m n nonzeros list) starts cross →
-    LineTables (pattern_of m n nonzeros list) counts starts cross
-lines_tabled {m} {n} {nonzeros} {list} {counts = counts} total l e wide counted long started laid =
-    let limited = listed_limited l in
-    let every = list-lines m n nonzeros list l.rows_small l.columns_small ∙ sym e in
-    let counts_are = lines-counted counts limited counted in
+-- the tables of an accepted list, as they are made
+pub tables_made :
+    (x : Matrix) (rows counts places starts cross order : List ℕ) (full total : ℕ) →
+    list_verdict x.m x.n x.nonzeros x.list.now ≡ accepted → total ≡ within (x.m + x.n) →
+    ((i : ℕ) → i ≤ side_room → get_or rows i 0 ≡ row_start (pattern_in x) i) →
+    (length counts ≡ line_room) × ((l : ℕ) → l < line_room → get_or counts l 0 ≡ line_count (pattern_in x) l) →
+    (x.m + x.n ≤ line_room → ((l : ℕ) → l < line_room → get_or counts l 0 ≡ line_count (pattern_in x) l) →
+    ((l : ℕ) → line_count (pattern_in x) l ≤ line_limit) → Placed (pattern_in x) places) →
+    (length starts ≡ line_room) × StartsOf total counts starts → LaidFrom (pattern_in x) starts cross → OrderOf total places order →
+    full ≡ total_by counts total →
+    TablesOf x rows counts places starts cross order full
+tables_made x rows counts places starts cross order full total opens all started counted placed laid crossed ordered filled =
+    let ready = accepted_ready x.m x.n x.nonzeros x.list.now counts places rows full opens counted.1 placed started (filled ∙ ap (total_by counts) all) in
+    let listed = ready.listed in
+    let limited = listed_limited listed in
+    let every = list-lines x.m x.n x.nonzeros x.list.now listed.rows_small listed.columns_small ∙ sym all in
+    let counts_are = lines-counted counts limited counted.1 in
     record {
-      laid = laid long limited (started (pattern_of m n nonzeros list) limited every counts_are);
-      counts_long = wide;
-      counts_are = counts_are;
+      ready = ready;
+      tabled = record {
+        laid = crossed laid.0 limited (laid.1 (pattern_in x) limited every counts_are);
+        ordered = ordered (pattern_in x) limited every ready.placed.placed;
+        counts_long = counted.0;
+        counts_are = counts_are;
+      };
     }
 
--- the tables but the order
-line_tables : {P : Pattern} {counts starts cross order : List ℕ} → Tabled P counts starts cross order → LineTables P counts starts cross
-line_tables t = record { laid = t.laid; counts_long = t.counts_long; counts_are = t.counts_are }
+-- each of so many lines is one of the pattern
+pub every_line : (t : Tables) (total end : ℕ) → total ≡ within (t.matrix.m + t.matrix.n) → end ≡ total → end ≡ lines (pattern_in t.matrix)
+every_line t total end all e =
+    let x = t.matrix in
+    let l = t.made.ready.listed in
+    e ∙ all ∙ sym (list-lines x.m x.n x.nonzeros x.list.now l.rows_small l.columns_small)
 
--- the tables that a run makes
-module _ {s : Search} {m n nonzeros : ℕ} {list counts places rows : List ℕ} {k budget : ℕ} (r : Readied s m n nonzeros list counts places rows k budget) where
-  same : pattern_in s m list ≡ pattern_of m n nonzeros list
-  same =
-      ap (λ (x : ℕ). pattern_of m x s.nonzeros list) (sym r.columns_are)
-      ∙ ap (λ (x : ℕ). pattern_of m n x list) (sym r.size_is)
-
-  pub tables_made :
-      {starts cross order : List ℕ} (total : ℕ) → total ≡ within (m + n) →
-      length starts ≡ line_room → StartsOf total counts starts → LaidFrom (pattern_of m n nonzeros list) starts cross → OrderOf total places order →
-      Tabled (pattern_in s m list) counts starts cross order
-  tables_made {starts} {cross} total e long started laid ordered =
-      let P = pattern_in s m list in
-      let l = r.startable.listed in
-      let all : total ≡ within (m + s.n) = e ∙ ap (λ (x : ℕ). within (m + x)) r.columns_are in
-      let tables : LineTables P counts starts cross =
-      lines_tabled total l all r.counts_long r.counted long started (subst (λ (Q : Pattern). LaidFrom Q starts cross) (sym same) laid) in
-      record {
-        laid = tables.laid;
-        ordered = ordered P (listed_limited l) (list-lines m s.n s.nonzeros list l.rows_small l.columns_small ∙ sym all) r.placed.placed;
-        counts_long = r.counts_long;
-        counts_are = tables.counts_are;
-      }
+-- the marks that a run places
+module _ {s : Search} {t : Tables} {k budget : ℕ} (r : Startable s t k budget) where
+  abbrev x : Matrix
+  x = t.matrix
 
   short : length (record_of s).trail ≤ mark_room
-  short = omega (arith, r.startable.legal.within, rules_k (pattern_in s m list) (caps_in s), r.startable.few)
-
-  every_line : (total end : ℕ) → total ≡ within (m + n) → end ≡ total → end ≡ lines (pattern_in s m list)
-  every_line total end all e =
-      let l = r.startable.listed in
-      e ∙ all ∙ ap (λ (x : ℕ). within (m + x)) r.columns_are ∙ sym (list-lines m s.n s.nonzeros list l.rows_small l.columns_small)
+  short = omega (arith, r.legal.within, rules_k (pattern_in x) (caps_in s), t.made.ready.total, t.made.ready.few)
 
   -- the marks by line that it places are those of the trail but the last,
   module _
-      (total : ℕ) (all : total ≡ within (m + n)) (given : List ℕ)
-      (before : (m n nonzeros : ℕ) (list τ : List ℕ) → total ≡ within (m + n) → m + n ≤ line_room → Placed (pattern_of m n nonzeros list) places →
-      s.trail ≡ trail_of τ → length τ ≤ mark_room → (l : ℕ) → l < lines (pattern_of m n nonzeros list) →
-      marking_in given l ≡ marking (pattern_of m n nonzeros list) (earlier τ) l)
+      (total : ℕ) (all : total ≡ within (x.m + x.n)) (given : List ℕ)
+      (before : (τ : List ℕ) → s.trail ≡ trail_of τ → length τ ≤ mark_room → (l : ℕ) → l < lines (pattern_in x) →
+      marking_in given l ≡ marking (pattern_in x) (earlier τ) l)
     where
-      given_same : (l : ℕ) → l < lines (pattern_in s m list) → marking_in given l ≡ marking (pattern_in s m list) (earlier (record_of s).trail) l
+      given_same : (l : ℕ) → l < lines (pattern_in x) → marking_in given l ≡ marking (pattern_in x) (earlier (record_of s).trail) l
       unfolding search_of
-      given_same =
-          before
-          m
-          s.n
-          s.nonzeros
-          list
-          (record_of s).trail
-          (all ∙ ap (λ (x : ℕ). within (m + x)) r.columns_are)
-          (listed_few r.startable.listed)
-          r.placed
-          (ap (λ (x : Search). x.trail) r.startable.held)
-          short
+      given_same = before (record_of s).trail (ap (λ (q : Search). q.trail) r.held) short
 
       -- which are valid,
-      given_fits : valid (pattern_in s m list) (caps_in s) (marking_in given) ≡ true
+      given_fits : valid (pattern_in x) (caps_in s) (marking_in given) ≡ true
       given_fits =
-          let P = pattern_in s m list in
-          valid_same (inside_marks r.startable.listed.inside (alike_self P) given_same) (caps_in s)
+          let P = pattern_in x in
+          valid_same (inside_marks t.made.ready.listed.inside (alike_self P) given_same) (caps_in s)
           ∙ rules-valid P (caps_in s) (earlier (record_of s).trail)
-          ∙ (earlier-standing P (caps_in s) (record_of s).trail r.startable.legal).fits
+          ∙ (earlier-standing P (caps_in s) (record_of s).trail r.legal).fits
 
       -- so that they can be placed,
       pub given_keepable :
-          {starts cross order : List ℕ} (end : ℕ) → end ≡ total → Tabled (pattern_in s m list) counts starts cross order → Keepable given counts starts cross end
-      given_keepable end e tabled =
+          (end : ℕ) → end ≡ total → Keepable given t end
+      given_keepable end e =
           record {
-            pattern = pattern_in s m list;
             caps = caps_in s;
-            tables = line_tables tabled;
-            every = every_line total end all e;
+            every = every_line t total end all e;
             fits = given_fits;
           }
 
       -- and all is kept of them
       pub given_kept :
-          {starts cross order : List ℕ} (end : ℕ) {kept : Kept} → end ≡ total → Tabled (pattern_in s m list) counts starts cross order →
-          ((P : Pattern) (caps : Caps) → LineTables P counts starts cross → end ≡ lines P → valid P caps (marking_in given) ≡ true →
-          Keeps P (first_marks (marking_in given) end) kept) →
-          Keeps (pattern_in s m list) (marking (pattern_in s m list) (earlier (record_of s).trail)) kept
+          (end : ℕ) {kept : Kept} → end ≡ total →
+          ((caps : Caps) → end ≡ lines (pattern_in x) → valid (pattern_in x) caps (marking_in given) ≡ true →
+          Keeps (pattern_in x) (first_marks (marking_in given) end) kept) →
+          Keeps (pattern_in x) (marking (pattern_in x) (earlier (record_of s).trail)) kept
       unfolding marking
-      given_kept end e tabled keeps =
-          let P = pattern_in s m list in
+      given_kept end e keeps =
+          let P = pattern_in x in
           let τ = earlier (record_of s).trail in
-          let every = every_line total end all e in
+          let every = every_line t total end all e in
           holds_eq
-          r.startable.listed.inside
+          t.made.ready.listed.inside
           (marking P τ)
           (λ z b. omega (
             arith,
             first-before (marking_in given) end z (omega arith),
             given_same z b,
-            mark_most τ (earlier-standing P (caps_in s) (record_of s).trail r.startable.legal).marks (place P z),
+            mark_most τ (earlier-standing P (caps_in s) (record_of s).trail r.legal).marks (place P z),
           ))
-          (keeps P (caps_in s) (line_tables tabled) every given_fits)
+          (keeps (caps_in s) every given_fits)

@@ -6,29 +6,27 @@ use mathlib.Core.Path.{◌≡◌, refl, sym, ◌∙◌, ap, subst}
 use Prim.Native.Nat.{ℕ, ◌+◌, ◌*◌, ◌≤◌, ◌<◌}
 use lib.Dec.{ltb, leb}
 use native.Mathlib.Omega.{arith}
-use borrow.Author.Tests.{lt-ltb, le-ltb, ltb-false, leb-true, eqb-true, not-true}
+use borrow.Author.Tests.{lt-ltb, le-ltb, ltb-true, ltb-false, leb-true, eqb-true, not-true}
 use Rattle.counting.specs.Tests.{◌or◌}
-use Rattle.counting.proofs.Joined.{clash, and_left, and_right, or_left, or_right, or_fails, or_fails_right}
-use Rattle.model.specs.declared.Word.{Word}
+use Rattle.counting.proofs.Joined.{by_test, clash, and_left, and_right, or_left, or_fails, or_fails_right}
+use Rattle.std.specs.Prelude.{Ok}
+use Rattle.model.specs.Refusal.{Verdict, accepted, refused, refuse, ◌then◌}
 use Rattle.model.specs.declared.Word.TheVariants.{Budget}
-use Rattle.model.specs.declared.Verdict.{Verdict}
-use Rattle.model.specs.declared.Verdict.TheVariants.{Accepted, Refused}
-use Rattle.model.specs.declared.RunAnswer.{RunAnswer}
-use Rattle.model.specs.declared.RunAnswer.TheVariants as run-answer
-use Rattle.model.specs.declared.Ran.{Ran}
+use Rattle.model.specs.declared.Ended.{Ended}
 use Rattle.model.specs.declared.Search.{Search}
 use lib.ListN.{length, get_or}
-use Rattle.model.specs.Limits.{line_room, budget_limit, tries_limit}
-use Rattle.model.specs.Pattern.{Pattern, pattern_of, line_count, line_total}
+use Rattle.model.specs.Limits.{budget_limit, tries_limit}
 use Rattle.model.specs.Walk.{Record, Rules, rules_of, is_empty, walk, floor}
 use Rattle.model.specs.declared.Caps.{Caps}
 use Rattle.model.specs.State.{marks_in, caps_in, record_of, search_of, counts_fine, trail_fine, best_fine, state_fine}
 use Rattle.model.specs.Calls.{ended, ran_record, ran_after}
-use Rattle.model.proofs.Theorems.Checks.{refuse-not, refuse_so, refuse_no}
+use Rattle.model.proofs.Theorems.Checks.{refuse-not, refuse_so, refuse_no, refuse_either, then_accepted, then_refused, then_assoc}
+use Rattle.pattern.specs.declared.matrix.Matrix.{Matrix}
+use Rattle.pattern.specs.Matrix.{pattern_in}
+use Rattle.running.specs.declared.tables.Tables.{Tables}
 use Rattle.state.specs.Holding.{normal_of}
-use Rattle.state.specs.Ready.{Fits}
+use Rattle.state.specs.Ready.{Ready, Fits}
 use Rattle.state.proofs.Accepting.{fine_normal, fits_back, ready_fits, fine_looked}
-use Rattle.bound.specs.Evaluated.{Listed, Placed}
 use Rattle.model.proofs.Walk.Legal.{Legal, legal_empty}
 use Rattle.model.proofs.Order.RulesSound.{rules_sound}
 use Rattle.model.proofs.Order.SplitMarks.{stack-length}
@@ -37,24 +35,43 @@ use Rattle.running.specs.Trying.{walk_to}
 use Rattle.running.proofs.Walked.{Going}
 use Rattle.running.proofs.Exact.{walk_exact}
 use Rattle.running.proofs.Floored.{floor-found}
-use Rattle.running.specs.Run.{pattern_in, rules_in, Readied, Tryable}
+use Rattle.running.specs.Run.{rules_in, Startable, Tryable}
 use Rattle.running.specs.Budget.{budget_by}
 
+-- tries over the limit by themselves are over it with a budget
+tries_first :
+    (tries budget : ℕ) →
+    refuse (ltb tries_limit (tries + budget)) Budget 0
+    ≡ refuse (ltb tries_limit tries) Budget 0 then refuse (ltb tries_limit (tries + budget)) Budget 0
+tries_first tries budget =
+    by_test
+    (ltb tries_limit tries)
+    (λ over. refuse_so Budget 0 (lt-ltb tries_limit (tries + budget) (omega (arith, ltb-true tries_limit tries over))) ∙ sym (then_refused _ (refuse_so Budget 0 over)))
+    (λ under. sym (then_accepted _ (refuse_no Budget 0 under)))
+
 -- the cases of 13
-pub budget_over : (tries budget : ℕ) → budget_limit < budget → Refused Budget 0 ≡ budget_by tries budget
+pub budget_each :
+    (tries budget : ℕ) →
+    budget_by tries budget
+    ≡ refuse (ltb budget_limit budget) Budget 0
+    then refuse (ltb tries_limit tries) Budget 0
+    then refuse (ltb tries_limit (tries + budget)) Budget 0
+unfolding budget_by
+budget_each tries budget =
+    refuse_either _ _ Budget 0
+    ∙ ap (λ (v : Verdict). refuse (ltb budget_limit budget) Budget 0 then v) (tries_first tries budget)
+    ∙ sym (then_assoc (refuse (ltb budget_limit budget) Budget 0) (refuse (ltb tries_limit tries) Budget 0) (refuse (ltb tries_limit (tries + budget)) Budget 0))
+
+pub budget_over : (tries budget : ℕ) → budget_limit < budget → refused Budget 0 ≡ budget_by tries budget
 unfolding budget_by
 budget_over tries budget h = sym (refuse_so Budget 0 (or_left (ltb tries_limit (tries + budget)) (lt-ltb budget_limit budget h)))
 
-pub tries_over : (tries budget : ℕ) → tries_limit < tries + budget → Refused Budget 0 ≡ budget_by tries budget
-unfolding budget_by
-tries_over tries budget h = sym (refuse_so Budget 0 (or_right (ltb budget_limit budget) (lt-ltb tries_limit (tries + budget) h)))
-
-pub budget_taken : (tries budget : ℕ) → budget ≤ budget_limit → tries + budget ≤ tries_limit → Accepted ≡ budget_by tries budget
+pub budget_taken : (tries budget : ℕ) → budget ≤ budget_limit → tries + budget ≤ tries_limit → accepted ≡ budget_by tries budget
 unfolding budget_by
 budget_taken tries budget h g = sym (refuse_no Budget 0 (or_fails (le-ltb budget_limit budget h) (le-ltb tries_limit (tries + budget) g)))
 
 -- an accepted budget is within the limit on tries
-pub budget_within : (tries budget : ℕ) → budget_by tries budget ≡ Accepted → tries + budget ≤ tries_limit
+pub budget_within : (tries budget : ℕ) → budget_by tries budget ≡ accepted → tries + budget ≤ tries_limit
 unfolding budget_by
 budget_within tries budget h =
     ltb-false
@@ -70,10 +87,6 @@ normal_tries s t e = ap (λ (x : Search). x.tries) e
 normal_caps : (s t : Search) → t ≡ normal_of s → caps_in t ≡ caps_in s
 unfolding normal_of
 normal_caps s t e = ap caps_in e
-
--- a run's answer of these two
-abbrev pub ran_by : RunAnswer → Search → Ran
-ran_by a s = record { answer = a; search = s }
 
 record_caps : (s : Search) → (record_of s).caps ≡ caps_in s
 unfolding record_of
@@ -117,102 +130,89 @@ fine_tries R m n nonzeros r h =
     tries_limit
     (and_left _ (leb r.looks (r.tries * m * nonzeros)) (and_right _ (counts_fine r.tries r.looks m nonzeros) (and_left _ (trail_fine R r.complete r.trail) (and_left _ (best_fine R r.best r.best_count r.complete) h))))
 
-module _ (rows columns size : ℕ) (list counts places starts : List ℕ) (k : ℕ) (s from : Search) (t : Tryable rows columns size list counts places starts k s) (f : from ≡ normal_of s) where
-  fits : Fits k (record_of s)
-  fits = ready_fits rows columns size list places starts k s t.ready t.fine
+-- whether a search is one that a run of this matrix takes
+abbrev pub fine_in : Search → Matrix → Bool
+fine_in s x = state_fine (rules_in s x) x.m x.n x.nonzeros (record_of s)
+
+module _ {tables : Tables} (s from : Search) (t : Tryable tables s) (f : from ≡ normal_of s) where
+  abbrev x : Matrix
+  x = tables.matrix
+
+  abbrev ready : Ready x.m x.n x.nonzeros x.list.now tables.places tables.rows tables.full
+  ready = tables.made.ready
+
+  fits : Fits tables.full (record_of s)
+  fits = ready_fits x.m x.n x.nonzeros x.list.now tables.places tables.rows tables.full s ready t.fine
 
   -- a cleared search is that of its record
   is_record : from ≡ search_of (record_of s)
-  is_record = f ∙ fine_normal s k t.ready.few fits
+  is_record = f ∙ fine_normal s tables.full ready.few fits
 
   pub same_record : record_of from ≡ record_of s
-  same_record = ap record_of is_record ∙ fits_back k (record_of s) t.ready.few fits
+  same_record = ap record_of is_record ∙ fits_back tables.full (record_of s) ready.few fits
 
-  -- with the list's sizes
-  same_columns : from.n ≡ columns
-  unfolding normal_of record_of
-  same_columns = ap (λ (x : Search). x.n) f ∙ (state_sizes _ rows columns size (record_of s) t.fine).1
+  pub same_rules : rules_in from x ≡ rules_in s x
+  same_rules = ap (rules_of (pattern_in x)) (normal_caps s from f)
 
-  same_size : from.nonzeros ≡ size
-  unfolding normal_of record_of
-  same_size = ap (λ (x : Search). x.nonzeros) f ∙ (state_sizes _ rows columns size (record_of s) t.fine).2
-
-  same_pattern : pattern_in from rows list ≡ pattern_of rows columns size list
-  same_pattern =
-      ap (λ (x : ℕ). pattern_of rows x from.nonzeros list) same_columns
-      ∙ ap (λ (x : ℕ). pattern_of rows columns x list) same_size
-
-  pub same_rules : rules_in from rows list ≡ rules_of (pattern_of rows columns size list) (caps_in s)
-  same_rules =
-      ap (λ (P : Pattern). rules_of P (caps_in from)) same_pattern
-      ∙ ap (rules_of (pattern_of rows columns size list)) (normal_caps s from f)
-
-  fine_trail : Going (rules_in from rows list) (record_of from)
+  fine_trail : Going (rules_in from x) (record_of from)
   fine_trail =
       subst
       (λ (R : Rules). Going R (record_of from))
       (sym same_rules)
-      (subst (λ (r : Record). Going (rules_of (pattern_of rows columns size list) (caps_in s)) r) (sym same_record) (fine_going _ rows columns size (record_of s) t.fine))
+      (subst (λ (r : Record). Going (rules_in s x) r) (sym same_record) (fine_going _ x.m x.n x.nonzeros (record_of s) t.fine))
 
-  from-looked : from.looks ≤ from.tries * (rows * from.nonzeros)
+  from-looked : from.looks ≤ from.tries * (x.m * x.nonzeros)
   unfolding normal_of record_of
-  from-looked =
-      subst
-      (λ (x : ℕ). from.looks ≤ from.tries * (rows * x))
-      (sym same_size)
-      (subst (λ (x : Search). x.looks ≤ x.tries * (rows * size)) (sym f) (fine_looked _ rows columns size (record_of s) t.fine).few)
+  from-looked = subst (λ (q : Search). q.looks ≤ q.tries * (x.m * x.nonzeros)) (sym f) (fine_looked _ x.m x.n x.nonzeros (record_of s) t.fine).few
 
   -- and tries can be made on it
   pub from_readied :
-      (full budget : ℕ) → full ≤ k → s.tries + budget ≤ tries_limit + budget_limit →
-      Readied from rows columns size list counts places starts full budget
+      (full budget : ℕ) → full ≤ tables.full → s.tries + budget ≤ tries_limit + budget_limit →
+      Startable from tables full budget
   unfolding record_of
   from_readied full budget most room =
-      let total : k ≡ line_total (pattern_in from rows list) = t.ready.total ∙ ap line_total (sym same_pattern) in
       record {
-        startable = record {
-          room = omega (arith, room, normal_tries s from f);
-          held = is_record ∙ ap search_of (sym same_record);
-          listed = subst (λ (x : ℕ). Listed rows x from.nonzeros list starts) (sym same_columns) (subst (λ (x : ℕ). Listed rows columns x list starts) (sym same_size) t.ready.listed);
-          within = omega (arith, total);
-          few = omega (arith, total, t.ready.few);
-          legal = fine_trail.legal;
-          ended = fine_trail.ended;
-          looked = from-looked;
-        };
-        counts_long = t.counts_long;
-        counted = subst (λ (P : Pattern). (l : ℕ) → l < line_room → get_or counts l 0 ≡ line_count P l) (sym same_pattern) t.counted;
-        columns_are = sym same_columns;
-        size_is = sym same_size;
-        placed = subst (λ (P : Pattern). Placed P places) (sym same_pattern) t.ready.placed;
+        room = omega (arith, room, normal_tries s from f);
+        held = is_record ∙ ap search_of (sym same_record);
+        within = omega (arith, ready.total);
+        legal = fine_trail.legal;
+        ended = fine_trail.ended;
+        looked = from-looked;
       }
 
   -- with k marks for a full trail they are the walk's
   walk-taken :
-      (budget : ℕ) → walk_to (rules_in from rows list) k budget (record_of from) ≡ walk (rules_of (pattern_of rows columns size list) (record_of s).caps) budget (record_of s)
+      (budget : ℕ) → walk_to (rules_in from x) tables.full budget (record_of from) ≡ walk (rules_of (pattern_in x) (record_of s).caps) budget (record_of s)
   walk-taken budget =
-      let P = pattern_of rows columns size list in
-      let R = rules_of P (caps_in s) in
-      ap (λ (Q : Rules). walk_to Q k budget (record_of from)) same_rules
-      ∙ ap (walk_to R k budget) same_record
-      ∙ ap (λ (x : ℕ). walk_to R x budget (record_of s)) (t.ready.total ∙ sym (rules_k P (caps_in s)))
-      ∙ walk_exact (rules_sound P (caps_in s) t.ready.listed.inside) budget (record_of s) (fine_going _ rows columns size (record_of s) t.fine)
+      let P = pattern_in x in
+      let R = rules_in s x in
+      ap (λ (Q : Rules). walk_to Q tables.full budget (record_of from)) same_rules
+      ∙ ap (walk_to R tables.full budget) same_record
+      ∙ ap (λ (k : ℕ). walk_to R k budget (record_of s)) (ready.total ∙ sym (rules_k P (caps_in s)))
+      ∙ walk_exact (rules_sound P (caps_in s) ready.listed.inside) budget (record_of s) (fine_going _ x.m x.n x.nonzeros (record_of s) t.fine)
       ∙ ap (λ (c : Caps). walk (rules_of P c) budget (record_of s)) (sym (record_caps s))
+
+  -- the search after an accepted run
+  pub run_walked :
+      (budget : ℕ) (after : Search) → after ≡ search_of (walk_to (rules_in from x) tables.full budget (record_of from)) →
+      after ≡ search_of (ran_record (record_of s) (pattern_in x) budget)
+  unfolding ran_record
+  run_walked budget after walks = walks ∙ ap search_of (walk-taken budget)
 
   -- an accepted run
   pub run_taken :
-      (budget : ℕ) (after : Search) (answer : RunAnswer) (v : Verdict) → v ≡ budget_by s.tries budget → v ≡ Accepted →
-      after ≡ search_of (walk_to (rules_in from rows list) k budget (record_of from)) →
+      (budget : ℕ) (after : Search) (answer : Ended) (v : Verdict) → v ≡ budget_by s.tries budget → v ≡ accepted →
+      after ≡ search_of (walk_to (rules_in from x) tables.full budget (record_of from)) →
       answer ≡ ended after.complete after.looks →
-      ran_by answer after ≡ ran_after (budget_by s.tries budget) s (pattern_of rows columns size list) budget
-  unfolding ran_after ran_record search_of
+      record { answer = Ok answer; search = after } ≡ ran_after (budget_by s.tries budget) s (pattern_in x) budget
+  unfolding ran_after search_of
   run_taken budget after answer v e a walks d =
-      ap (λ (x : RunAnswer). ran_by x after) d
-      ∙ ap (λ (x : Search). ran_by (ended x.complete x.looks) x) (walks ∙ ap search_of (walk-taken budget))
-      ∙ ap (λ (x : Verdict). ran_after x s (pattern_of rows columns size list) budget) (sym a ∙ e)
+      ap (λ (q : Ended). record { answer = Ok q; search = after }) d
+      ∙ ap (λ (q : Search). record { answer = Ok (ended q.complete q.looks); search = q }) (run_walked budget after walks)
+      ∙ ap (λ (q : Verdict). ran_after q s (pattern_in x) budget) (sym a ∙ e)
 
   -- the trail of the search has at most k marks
-  pub from-short : from.trail.len ≤ k
+  pub from-short : from.trail.len ≤ tables.full
   unfolding record_of marks_in
   from-short =
       omega (
@@ -223,30 +223,23 @@ module _ (rows columns size : ℕ) (list counts places starts : List ℕ) (k : �
       )
 
   -- with none for a full trail, and tries enough for every open marking, they find its floor
-  pub floor_readied : (budget : ℕ) → budget ≤ budget_limit → Readied from rows columns size list counts places starts 0 budget
+  pub floor_readied : (budget : ℕ) → budget ≤ budget_limit → Startable from tables 0 budget
   unfolding record_of
   floor_readied budget b =
-      from_readied 0 budget (omega arith) (omega (arith, fine_tries _ rows columns size (record_of s) t.fine))
+      from_readied 0 budget (omega arith) (omega (arith, fine_tries _ x.m x.n x.nonzeros (record_of s) t.fine))
 
   pub floor-taken :
       (budget : ℕ) → 2 * from.trail.len + 1 ≤ budget → (after : Search) →
-      after ≡ search_of (walk_to (rules_in from rows list) 0 budget (record_of from)) →
-      after.best_count ≡ floor (rules_of (pattern_of rows columns size list) (caps_in s)) (record_of s)
+      after ≡ search_of (walk_to (rules_in from x) 0 budget (record_of from)) →
+      after.best_count ≡ floor (rules_in s x) (record_of s)
   unfolding search_of record_of marks_in
   floor-taken budget enough after e =
-      ap (λ (x : Search). x.best_count) e
+      ap (λ (q : Search). q.best_count) e
       ∙ floor-found
-      (rules_in from rows list)
+      (rules_in from x)
       budget
       (record_of from)
       fine_trail
       (omega (arith, stack-length (λ i. get_or from.trail.marks i 0) from.trail.len))
       ∙ ap (λ (R : Rules). floor R (record_of from)) same_rules
-      ∙ ap (floor (rules_of (pattern_of rows columns size list) (caps_in s))) same_record
-
--- a refused one
-pub run_refused :
-    (P : Pattern) (budget : ℕ) (s : Search) (word : Word) (place : ℕ) (v : Verdict) →
-    v ≡ Refused word place → ran_by (run-answer.Refused word place) s ≡ ran_after v s P budget
-unfolding ran_after
-run_refused P budget s word place v e = ap (λ (x : Verdict). ran_after x s P budget) (sym e)
+      ∙ ap (floor (rules_in s x)) same_record

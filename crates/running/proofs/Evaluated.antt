@@ -5,70 +5,33 @@ use mathlib.Core.List.{List}
 use mathlib.Core.Path.{◌≡◌, sym, ◌∙◌}
 use Prim.Native.Nat.{ℕ, ◌+◌, ◌*◌, ◌≤◌, ◌<◌}
 use native.Mathlib.Omega.{arith}
-use denote.Enum.Declared.{tag_of, declared}
-use lib.ListN.{length, get_or}
-use Rattle.counting.proofs.Joined.{no_way, never, clash}
-use Rattle.model.specs.contracts.Verdict.{enum}
-use Rattle.model.specs.declared.Verdict.{Verdict}
-use Rattle.model.specs.declared.Verdict.TheVariants.{Accepted, Refused}
+use lib.ListN.{get_or}
+use Rattle.counting.proofs.Joined.{clash}
 use Rattle.model.specs.declared.Part.TheVariants.{Zero, One}
 use Rattle.model.specs.declared.Caps.{Caps}
 use Rattle.model.specs.Limits.{line_room, line_limit, nonzero_limit}
 use Rattle.model.specs.Pattern.{Pattern, pattern_of, lines, line_count}
 use Rattle.model.specs.Marking.{Marking}
 use Rattle.model.specs.Bound.{L3}
-use Rattle.model.specs.Calls.{list_verdict}
-use Rattle.pattern.specs.Room.{within}
-use Rattle.matching.specs.Starts.{side_room, row_start}
 use Rattle.weighing.specs.declared.taking.Taken.{Taken}
 use Rattle.weighing.specs.Cells.{marking_in}
 use Rattle.weighing.specs.Taking.{TakenOf, valid_by}
 use Rattle.weighing.proofs.Cells.{marking_in_lem}
 use Rattle.weighing.proofs.Taken.{valid-by}
 use Rattle.bound.specs.Evaluated.{Listed}
-use Rattle.bound.proofs.Evaluations.{accepted_listed}
 use Rattle.crossing.specs.Crossing.{Laid}
-use Rattle.crossing.specs.Tables.{StartsOf, LaidFrom}
-use Rattle.crossing.proofs.OfList.{list-lines}
 use Rattle.keeping.specs.Kept.{Holds}
 use Rattle.judging.specs.Bounds.{struck_from}
 use Rattle.judging.proofs.Bounds.{struck-from}
 use Rattle.running.specs.declared.evaluating.Evaluation.{Evaluation}
 use Rattle.running.specs.Judging.{Topped}
-use Rattle.running.specs.Walking.{LineTables}
 use Rattle.running.specs.Evaluating.{NoBound, Evaluates}
-use Rattle.running.proofs.Beginnings.{lines_tabled}
 use Rattle.running.proofs.StruckFew.{struck_few}
 
 -- the mark of a line
 pub given_at_lem : (given : List ℕ) (l : ℕ) → l < line_room → get_or given l 0 ≡ marking_in given l
 unfolding marking_in
 given_at_lem given l b = sym (marking_in_lem given l b)
-
--- a list that is accepted is not refused
-pub refused_never : {A : Type 0} (v : Verdict) → tag_of (declared enum) v ≡ 1 → v ≡ Accepted → A
-refused_never Accepted h e = no_way (omega arith)
-refused_never (Refused word place) h e = never (cc)
-
--- the tables that an evaluation makes of an accepted list
-pub record Made (m n nonzeros : ℕ) (list rows counts starts cross : List ℕ) (end : ℕ) : Type 0 where
-  pub listed : Listed m n nonzeros list rows
-  pub tables : LineTables (pattern_of m n nonzeros list) counts starts cross
-  pub every : end ≡ lines (pattern_of m n nonzeros list)
-
-pub tables_of_lem :
-    {m n nonzeros : ℕ} {list counts starts cross : List ℕ} {end : ℕ} (rows : List ℕ) (total : ℕ) → list_verdict m n nonzeros list ≡ Accepted →
-    ((m n i : ℕ) → i ≤ side_room → get_or rows i 0 ≡ row_start (pattern_of m n nonzeros list) i) → total ≡ within (m + n) →
-    (length counts ≡ line_room) × ((l : ℕ) → l < line_room → get_or counts l 0 ≡ line_count (pattern_of m n nonzeros list) l) →
-    (length starts ≡ line_room) × StartsOf total counts starts → LaidFrom (pattern_of m n nonzeros list) starts cross → end ≡ total →
-    Made m n nonzeros list rows counts starts cross end
-tables_of_lem {m} {n} {nonzeros} {list} rows total accepted starting e counted started laid ends =
-    let listed = accepted_listed m n nonzeros list rows accepted starting in
-    record {
-      listed = listed;
-      tables = lines_tabled total listed e counted.0 counted.1 started.0 started.1 laid;
-      every = ends ∙ e ∙ sym (list-lines m n nonzeros list listed.rows_small listed.columns_small);
-    }
 
 -- no line of an accepted list has more nonzeros than line_limit
 pub listed_topped :

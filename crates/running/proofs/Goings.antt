@@ -22,7 +22,9 @@ use Rattle.model.proofs.Walk.Left.{advance-length}
 use Rattle.model.proofs.Theorems.OfList.{rules_k}
 use Rattle.packing.specs.Packed.{earlier, last_of}
 use Rattle.keeping.specs.Kept.{Holds}
+use Rattle.running.specs.declared.kept.Kept.{Kept}
 use Rattle.running.specs.declared.walking.Tried.{Tried}
+use Rattle.running.specs.Kept.{Keeps}
 use Rattle.running.specs.Walking.{Standing, Next, Attempted}
 use Rattle.running.proofs.Turns.{trail_split, earlier-length, stack_begins, advance_begins, legal_standing}
 
@@ -123,19 +125,19 @@ module _ (P : Pattern) (caps : Caps) (τ : List ℕ) (legal : Legal (rules_of P 
 
   -- what a try with the last mark answers is said of the trail
   pub attempted_trail :
-      {p best : ℕ} {t : Tried} {marks by left kinds tally sums loads : List ℕ} →
-      Attempted P caps (earlier τ) p best t marks by left kinds tally sums loads → p ≡ last_of τ →
+      {p best : ℕ} {t : Tried} {kept : Kept} →
+      Attempted P caps (earlier τ) p best t kept → p ≡ last_of τ →
       (t.stands ≡ (rules_of P caps).valid τ and ltb ((rules_of P caps).bound τ) best)
       × (t.stands ≡ true → t.least ≡ (rules_of P caps).bound τ)
       × (t.looks ≡ looks_at (rules_of P caps) τ)
-      × Holds P (marking P (pick t.stands τ (earlier τ))) marks by left kinds tally sums loads
-  attempted_trail {p} {best} {t} {marks} {by} {left} {kinds} {tally} {sums} {loads} a last =
+      × Keeps P (marking P (pick t.stands τ (earlier τ))) kept
+  attempted_trail {p} {best} {t} {kept} a last =
       let R = rules_of P caps in
       let whole : p ∷ earlier τ ≡ τ = ap (◌∷ earlier τ) last ∙ sym split in (
         a.stands_is ∙ ap (λ (ρ : List ℕ). R.valid ρ and ltb (R.bound ρ) best) whole,
         (λ up. a.least_is up ∙ ap R.bound whole),
         a.looks_is ∙ ap (looks_at R) whole,
-        subst (λ (ρ : List ℕ). Holds P (marking P (pick t.stands ρ (earlier τ))) marks by left kinds tally sums loads) whole a.holds,
+        subst (λ (ρ : List ℕ). Keeps P (marking P (pick t.stands ρ (earlier τ))) kept) whole a.holds,
       )
 
 -- with the best count of a record it says whether the record's trail stands

@@ -1,3 +1,5 @@
+pub mod Ways
+pub mod Passes
 pub mod Behind
 pub mod Turns
 pub mod Tries

@@ -3,9 +3,8 @@
 use Rattle.std.specs.Prelude.{ℕ, ◌+◌, ltb}
 use Rattle.counting.specs.Tests.{◌or◌}
 use Rattle.model.specs.declared.Word.TheVariants.{Budget}
-use Rattle.model.specs.declared.Verdict.{Verdict}
 use Rattle.model.specs.Limits.{budget_limit, tries_limit}
-use Rattle.model.specs.Refusal.{refuse}
+use Rattle.model.specs.Refusal.{Verdict, refuse}
 
 -- 13: over a call's range, or tries + budget over the limit
 unfoldable pub budget_by : ℕ → ℕ → Verdict

@@ -5,15 +5,12 @@ use Rattle.counting.specs.Tests.{pick}
 use Rattle.model.specs.declared.Caps.{Caps}
 use Rattle.model.specs.Pattern.{Pattern, lines}
 use Rattle.model.specs.Marking.{Marking, marking, unmarked, valid}
+use Rattle.pattern.specs.Matrix.{pattern_in}
 use Rattle.weighing.specs.Cells.{marking_in}
-use Rattle.crossing.specs.Crossing.{Laid}
-use Rattle.keeping.specs.Kept.{Holds, Placeable}
-use Rattle.running.specs.declared.laying.Kept.{Kept}
-use Rattle.running.specs.Walking.{LineTables}
-
--- all that is kept of a marking, as one value
-abbrev pub Keeps : Pattern → Marking → Kept → Type 0
-Keeps P μ k = Holds P μ k.marks k.by k.left k.kinds k.tally k.sums k.loads
+use Rattle.keeping.specs.Kept.{Placeable}
+use Rattle.running.specs.declared.kept.Kept.{Kept}
+use Rattle.running.specs.declared.tables.Tables.{Tables}
+use Rattle.running.specs.Kept.{KeepsOn}
 
 -- the marks of the lines before l; a number that is no mark is read as none
 unfoldable pub first_marks : Marking → ℕ → Marking
@@ -24,27 +21,21 @@ pub record Settable (P : Pattern) (μ : Marking) (l p : ℕ) : Type 0 where
   pub free : μ l ≡ unmarked
   pub placeable : p < unmarked → Placeable P μ l p
 
--- it can, by the arrays that keep what is known of the marking
-pub record SettableIn (starts cross marks by left kinds tally sums loads : List ℕ) (l p : ℕ) : Type 0 where
-  pub pattern : Pattern
+-- it can, by the tables and what is kept of the marking
+pub record SettableIn (t : Tables) (kept : Kept) (l p : ℕ) : Type 0 where
   pub μ : Marking
-  pub laid : Laid pattern starts cross
-  pub settable : Settable pattern μ l p
-  pub holds : Holds pattern μ marks by left kinds tally sums loads
+  pub settable : Settable (pattern_in t.matrix) μ l p
+  pub holds : KeepsOn t μ kept
 
 -- the marks of an array, which make a valid marking, can be placed line by line
-pub record Givable (starts cross given marks by left kinds tally sums loads : List ℕ) (end : ℕ) : Type 0 where
-  pub pattern : Pattern
+pub record Givable (t : Tables) (given : List ℕ) (kept : Kept) (end : ℕ) : Type 0 where
   pub caps : Caps
-  pub laid : Laid pattern starts cross
-  pub every : end ≡ lines pattern
-  pub fits : valid pattern caps (marking_in given) ≡ true
-  pub holds : Holds pattern (marking pattern []) marks by left kinds tally sums loads
+  pub every : end ≡ lines (pattern_in t.matrix)
+  pub fits : valid (pattern_in t.matrix) caps (marking_in given) ≡ true
+  pub holds : KeepsOn t (marking (pattern_in t.matrix) []) kept
 
--- so they can, with the tables of the pattern
-pub record Keepable (given counts starts cross : List ℕ) (end : ℕ) : Type 0 where
-  pub pattern : Pattern
+-- so they can, on what is kept of no marks
+pub record Keepable (given : List ℕ) (t : Tables) (end : ℕ) : Type 0 where
   pub caps : Caps
-  pub tables : LineTables pattern counts starts cross
-  pub every : end ≡ lines pattern
-  pub fits : valid pattern caps (marking_in given) ≡ true
+  pub every : end ≡ lines (pattern_in t.matrix)
+  pub fits : valid (pattern_in t.matrix) caps (marking_in given) ≡ true

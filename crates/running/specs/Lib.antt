@@ -1,9 +1,11 @@
 pub mod Budget
 pub mod Arrays
+pub mod Tabled
+pub mod Ways
+pub mod Kept
 pub mod Judging
 pub mod Walking
 pub mod Trying
 pub mod Laying
 pub mod Run
-pub mod Showing
 pub mod Evaluating

@@ -1,31 +1,25 @@
 // A marking of any set of lines, evaluated by the functions that a run judges by.
-ghost use Rattle.std.specs.Prelude.{true, false, List, ◌≡◌, ℕ, ◌+◌, ◌≤◌, ◌<◌};
+// Kept: numbers and list are as a caller hands them in, of any size, of which the checks refuse some: the signatures that callers have stay.
+ghost use Rattle.std.specs.Prelude.{true, false, ◌≡◌, ℕ, ◌+◌, ◌≤◌, ◌<◌};
 ghost use Rattle.model.specs.Limits.{line_limit};
-ghost use Rattle.model.specs.declared.Verdict.TheVariants.{Accepted};
+ghost use Rattle.model.specs.Refusal.{accepted};
 ghost use Rattle.model.specs.Pattern.{pattern_of};
 ghost use Rattle.model.specs.Marking.{Marking, unmarked, valid};
 ghost use Rattle.model.specs.Calls.{list_verdict};
+ghost use Rattle.pattern.specs.Matrix.{pattern_in};
 ghost use Rattle.weighing.specs.Cells.{marking_in};
 ghost use Rattle.weighing.specs.Taking.{TakenOf};
-ghost use Rattle.bound.specs.Evaluated.{Listed};
-ghost use Rattle.crossing.specs.Crossing.{Laid};
-ghost use Rattle.keeping.specs.Kept.{Holds};
-ghost use Rattle.running.specs.Judging.{Judgeable};
 ghost use Rattle.running.specs.Evaluating.{NoBound, Evaluates};
 
-use crate::deciding::{judge, strike_part};
-use crate::laying::{Kept, kept_of};
+use crate::kept::Kept;
 use crate::room::{CONFLICTS_PLACE, TORN_PLACE};
+use crate::tables::Tables;
 use bound::lower::matched_of;
-use crossing::laying::crossings;
-use crossing::starting::line_starts;
-use marking::order::line_counts;
-use matching::starts::row_starts;
-use model::limits::{LINE_ROOM, SIDE_ENDS};
-use model::{Caps, Verdict};
+use matching::augmenting::Ground;
+use model::Caps;
+use model::limits::LINE_ROOM;
 use pattern::checks::list_verdict;
-use pattern::reading::wide16;
-use pattern::room::lines_of;
+use pattern::matrix::Matrix;
 use weighing::taking::{Taken, is_valid, taken_of};
 
 // No line of an accepted list has more nonzeros.
@@ -33,6 +27,7 @@ const TOP: u16 = 300;
 
 // What an evaluation says of a marking: whether it is valid, D0 and D1, and for a valid one L1 to L4, the least of the bound and a count, and
 // the looks.
+// Kept: `evaluate_lines` promises D0 and D1 of a marking that is not valid too, and zeros for the rest, so that no Option holds them all.
 #[derive(Clone, Copy)]
 pub struct Evaluation {
     pub valid: bool,
@@ -46,75 +41,62 @@ pub struct Evaluation {
     pub looks: u64,
 }
 
-// The evaluation of a valid marking, from what it takes and what is kept of it.
-fn evaluate_kept(
-    m: u16,
-    list: &[u8],
-    rows: &[u16; SIDE_ENDS],
-    kept: Kept,
-    taken: Taken,
-    caps: Caps,
-    best: u64,
-) -> Evaluation
-    requires { Judgeable kept.kinds kept.tally kept.sums kept.loads caps line_limit }
-    ensures { (n nonzeros : ℕ) (μ : Marking) (starts cross : List ℕ) →
-        Listed m n nonzeros list.now rows.now →
-        Laid (pattern_of m n nonzeros list.now) starts cross →
-        Holds (pattern_of m n nonzeros list.now) μ kept.marks kept.by kept.left kept.kinds kept.tally kept.sums kept.loads →
-        valid (pattern_of m n nonzeros list.now) caps μ ≡ true →
-        TakenOf (pattern_of m n nonzeros list.now) μ taken →
-        Evaluates (pattern_of m n nonzeros list.now) caps μ best result }
-{
-    let kinds = kept.kinds;
-    let tally = kept.tally;
-    let sums = kept.sums;
-    let loads = kept.loads;
-    let judged = judge(
-        m, list, rows, &kinds, &tally, &sums, &loads, TOP, caps, best,
-    );
-    let top = wide16(TOP);
-    let zero = strike_part(&tally, &sums, &loads, 0, top, caps);
-    let one = strike_part(&tally, &sums, &loads, 1, top, caps);
-    let struck = zero + one;
-    let matching = matched_of(m, &kinds, list, rows, sums[CONFLICTS_PLACE] == 0);
-    let cut = loads[2];
-    let torn = sums[TORN_PLACE];
-    Evaluation {
-        valid: true,
-        zero: taken.zero,
-        one: taken.one,
-        cut,
-        torn,
-        struck: struck as u64,
-        matched: matching.size,
-        least: judged.least,
-        looks: judged.looks,
+impl Kept {
+    ghost use Rattle.running.specs.Kept.{KeepsOn};
+    ghost use Rattle.running.specs.Judging.{Judgeable};
+    ghost use Rattle.running.specs.Evaluating.{Evaluates};
+
+    // The evaluation of a valid marking, from what it takes and what is kept of it.
+    fn evaluate(&self, tables: &Tables<'_>, taken: Taken, caps: Caps, best: u64) -> Evaluation
+        requires { Judgeable tables.now self.now caps line_limit }
+        ensures { (μ : Marking) → KeepsOn tables.now μ self.now →
+            valid (pattern_in tables.now.matrix) caps μ ≡ true → TakenOf (pattern_in tables.now.matrix) μ taken →
+            Evaluates (pattern_in tables.now.matrix) caps μ best result }
+    {
+        let judged = self.judge(tables, TOP, caps, best);
+        let top = usize::from(TOP);
+        let zero = self.strike_part(0, top, caps);
+        let one = self.strike_part(1, top, caps);
+        let none = self.sums[CONFLICTS_PLACE] == 0;
+        let over = Ground {
+            lean: &self.kinds,
+            m: tables.matrix.m,
+            list: tables.matrix.list,
+            starts: &tables.rows,
+        };
+        let matching = matched_of(&over, none);
+        let struck = zero + one;
+        Evaluation {
+            valid: true,
+            zero: taken.zero,
+            one: taken.one,
+            cut: self.loads[2],
+            torn: self.sums[TORN_PLACE],
+            struck: struck as u64,
+            matched: matching.size,
+            least: judged.least,
+            looks: judged.looks,
+        }
     }
 }
 
 // The evaluation of a valid marking of an accepted list, from what it takes.
 fn evaluate_valid(
-    m: u16,
-    n: u16,
-    nonzeros: u16,
-    list: &[u8],
+    matrix: &Matrix<'_>,
     caps: Caps,
     given: &[u8; LINE_ROOM],
     taken: Taken,
     best: u64,
 ) -> Evaluation
-    requires { (list_verdict m n nonzeros list.now ≡ Accepted) × (valid (pattern_of m n nonzeros list.now) caps (marking_in given.now) ≡ true) }
-    ensures { ((l : ℕ) → l < m + n → marking_in given.now l ≤ unmarked) →
-        TakenOf (pattern_of m n nonzeros list.now) (marking_in given.now) taken →
-        Evaluates (pattern_of m n nonzeros list.now) caps (marking_in given.now) best result }
+    requires { (list_verdict matrix.now.m matrix.now.n matrix.now.nonzeros matrix.now.list.now ≡ accepted)
+        × (valid (pattern_in matrix.now) caps (marking_in given.now) ≡ true) }
+    ensures { ((l : ℕ) → l < matrix.now.m + matrix.now.n → marking_in given.now l ≤ unmarked) →
+        TakenOf (pattern_in matrix.now) (marking_in given.now) taken →
+        Evaluates (pattern_in matrix.now) caps (marking_in given.now) best result }
 {
-    let lines = lines_of(m, n);
-    let rows = row_starts(list, nonzeros);
-    let counts = line_counts(m, n, nonzeros, list);
-    let starts = line_starts(&counts, lines);
-    let cross = crossings(m, n, nonzeros, list, &starts);
-    let kept = kept_of(given, &counts, &starts, &cross, wide16(lines));
-    evaluate_kept(m, list, &rows, kept, taken, caps, best)
+    let tables = Tables::of(matrix);
+    let kept = Kept::of(given, &tables, usize::from(tables.matrix.lines()));
+    kept.evaluate(&tables, taken, caps, best)
 }
 
 // The evaluation of a marking that is not valid.
@@ -144,16 +126,19 @@ fn evaluate_listed(
     given: &[u8; LINE_ROOM],
     best: u64,
 ) -> Evaluation
-    requires { list_verdict m n nonzeros list.now ≡ Accepted }
+    requires { list_verdict m n nonzeros list.now ≡ accepted }
     ensures { ((l : ℕ) → l < m + n → marking_in given.now l ≤ unmarked) →
         Evaluates (pattern_of m n nonzeros list.now) caps (marking_in given.now) best result }
 {
-    let rows = m as u16;
-    let columns = n as u16;
-    let size = nonzeros as u16;
-    let taken = taken_of(rows, size, list, given);
+    let matrix = Matrix {
+        m: m as u16,
+        n: n as u16,
+        nonzeros: nonzeros as u16,
+        list,
+    };
+    let taken = taken_of(&matrix, given);
     if is_valid(taken, caps) {
-        return evaluate_valid(rows, columns, size, list, caps, given, taken, best);
+        return evaluate_valid(&matrix, caps, given, taken, best);
     }
     invalid(taken.zero, taken.one)
 }
@@ -169,13 +154,12 @@ pub fn evaluate_lines(
     given: &[u8; LINE_ROOM],
     best: u64,
 ) -> Evaluation
-    ensures { list_verdict m n nonzeros list.now ≡ Accepted →
+    ensures { list_verdict m n nonzeros list.now ≡ accepted →
         ((l : ℕ) → l < m + n → marking_in given.now l ≤ unmarked) →
         Evaluates (pattern_of m n nonzeros list.now) caps (marking_in given.now) best result }
 {
-    let listed = list_verdict(m, n, nonzeros, list);
-    match listed {
-        Verdict::Accepted => evaluate_listed(m, n, nonzeros, list, caps, given, best),
-        Verdict::Refused(_, _) => invalid(0, 0),
+    match list_verdict(m, n, nonzeros, list) {
+        Ok(()) => evaluate_listed(m, n, nonzeros, list, caps, given, best),
+        Err(_) => invalid(0, 0),
     }
 }

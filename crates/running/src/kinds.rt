@@ -1,5 +1,5 @@
 // The kinds of lines, and the counts that are tied to them.
-ghost use Rattle.std.specs.Prelude.{true, false, ◌≡◌, ℕ, ◌+◌, ◌<◌, eqb, length, get_or, set};
+ghost use Rattle.std.specs.Prelude.{false, ◌≡◌, ℕ, ◌+◌, ◌<◌, eqb, length, get_or, set};
 ghost use Rattle.counting.specs.Tests.{pick};
 ghost use Rattle.model.specs.Limits.{line_room};
 ghost use Rattle.model.specs.Pattern.{Pattern, lines};
@@ -8,13 +8,13 @@ ghost use Rattle.keeping.specs.Kinds.{cells, kind_number, kind_of};
 ghost use Rattle.keeping.specs.Tied.{Tied, Turnable};
 ghost use Rattle.keeping.specs.Moves.{Nears};
 ghost use Rattle.keeping.specs.Kept.{meets, Shiftable};
+ghost use Rattle.running.specs.Ways.{Way};
 
 use crate::room::{BY_ROOM, NEAR_PLACE, SUM_ROOM, TALLY_ROOM};
-use crate::tally::{enter, leave, long16, step};
+use crate::tally::{count_line, step};
 use crossing::CROSS_ROOM;
 use model::limits::LINE_ROOM;
 use model::{Condition, Part};
-use pattern::reading::{wide, wide16};
 use weighing::leaning::condition_of;
 
 // The number of a condition.
@@ -22,13 +22,10 @@ fn kind_number(condition: Condition) -> u8
     ensures { result ≡ kind_number condition }
 {
     match condition {
-        Condition::Marked(_) => 2,
+        Condition::Marked(_) | Condition::Untouched => 2,
         Condition::Torn => 3,
-        Condition::Leaning(p) => match p {
-            Part::Zero => 0,
-            Part::One => 1,
-        },
-        Condition::Untouched => 2,
+        Condition::Leaning(Part::Zero) => 0,
+        Condition::Leaning(Part::One) => 1,
     }
 }
 
@@ -50,16 +47,14 @@ fn shift_near(
 )
     requires { Shiftable starts.now cross.now tally.old y kind up }
     ensures { (P : Pattern) → Laid P starts.now cross.now → y < lines P →
-        (up ≡ true → Nears kind (meets P y) tally.old tally.new)
-        × (up ≡ false → Nears kind (meets P y) tally.new tally.old) }
+        Way up (Nears kind (meets P y)) tally.old tally.new }
 {
     if kind < 2 {
-        let base = NEAR_PLACE + LINE_ROOM * wide(kind);
-        let mut i = wide16(starts[y]);
-        let end = wide16(starts[y + 1]);
-        while i < end {
-            step(tally, base + wide16(cross[i]), up);
-            i += 1;
+        let base = NEAR_PLACE + LINE_ROOM * usize::from(kind);
+        let from = usize::from(starts[y]);
+        let end = usize::from(starts[y + 1]);
+        for i in from..end {
+            step(tally, base + usize::from(cross[i]), up);
         }
     }
 }
@@ -83,13 +78,13 @@ fn set_kind(
 {
     let from = kinds[y];
     let own = left[y];
-    let zero = long16(tally[NEAR_PLACE + y]);
-    let one = long16(tally[NEAR_PLACE + LINE_ROOM + y]);
-    leave(tally, sums, from, own, zero, one);
+    let zero = u32::from(tally[NEAR_PLACE + y]);
+    let one = u32::from(tally[NEAR_PLACE + LINE_ROOM + y]);
+    count_line(tally, sums, from, own, zero, one, false);
     shift_near(starts, cross, tally, y, from, false);
     kinds[y] = to;
     shift_near(starts, cross, tally, y, to, true);
-    enter(tally, sums, to, own, zero, one);
+    count_line(tally, sums, to, own, zero, one, true);
 }
 
 // Line y gets the kind that its mark and its counts give it.

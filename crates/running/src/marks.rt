@@ -1,19 +1,23 @@
 // A mark is placed on a line, and lifted from it: all that is kept follows.
-ghost use Rattle.std.specs.Prelude.{◌≡◌, ℕ, ◌<◌};
+ghost use Rattle.std.specs.Prelude.{not, ◌≡◌, ℕ, ◌<◌};
 ghost use Rattle.model.specs.Pattern.{Pattern, lines};
 ghost use Rattle.model.specs.Marking.{Marking, unmarked};
+ghost use Rattle.pattern.specs.Matrix.{pattern_in};
 ghost use Rattle.crossing.specs.Crossing.{Laid};
-ghost use Rattle.keeping.specs.Kept.{none, meets, Stage, Holds, Placeable, Takes, Gives, Pushable, Poppable, marking_with};
+ghost use Rattle.keeping.specs.Kept.{Stage, Placeable, marking_with};
+ghost use Rattle.running.specs.Ways.{Passable, besides};
 
-use crate::counts::{give_one, take_one};
+use crate::counts::count_one;
+use crate::kept::Kept;
 use crate::kinds::{settle, settle_if};
-use crate::room::{BY_ROOM, LOAD_ROOM, SUM_ROOM, TALLY_ROOM};
+use crate::room::{BY_ROOM, SUM_ROOM, TALLY_ROOM};
+use crate::tables::Tables;
 use crossing::CROSS_ROOM;
 use model::limits::LINE_ROOM;
-use pattern::reading::{wide, wide16};
 
-// The nonzeros of line l are taken by p, one by one, and each crossing line is settled where its count becomes 1.
-fn take_all(
+// The nonzeros of line l are taken by p, or those that it has taken are given back, one by one, and each crossing line is settled where its count
+// becomes 1, or 0.
+fn count_all(
     starts: &[u16; LINE_ROOM],
     cross: &[u16; CROSS_ROOM],
     marks: &[u8; LINE_ROOM],
@@ -24,111 +28,84 @@ fn take_all(
     sums: &mut [u32; SUM_ROOM],
     l: usize,
     p: usize,
+    taken: bool,
 )
-    requires { Takes starts.now cross.now marks.now by.old left.old kinds.old tally.old sums.old l p }
+    requires { Passable taken starts.now cross.now marks.now by.old left.old kinds.old tally.old sums.old l p }
     ensures { (P : Pattern) (μ : Marking) → Laid P starts.now cross.now → l < lines P → μ l ≡ unmarked →
-        Stage P μ p none marks.now by.old left.old kinds.old tally.old sums.old →
-        Stage P μ p (meets P l) marks.now by.new left.new kinds.new tally.new sums.new }
+        Stage P μ p (besides (not taken) P l) marks.now by.old left.old kinds.old tally.old sums.old →
+        Stage P μ p (besides taken P l) marks.now by.new left.new kinds.new tally.new sums.new }
 {
-    let mut i = wide16(starts[l]);
-    let end = wide16(starts[l + 1]);
-    while i < end {
-        let y = wide16(cross[i]);
-        take_one(by, left, kinds, tally, sums, y, p);
-        let turned = by[LINE_ROOM * p + y] == 1;
+    let from = usize::from(starts[l]);
+    let end = usize::from(starts[l + 1]);
+    for i in from..end {
+        let y = usize::from(cross[i]);
+        count_one(by, left, kinds, tally, sums, y, p, taken);
+        let turned = by[LINE_ROOM * p + y] == u16::from(taken);
         settle_if(
             starts, cross, marks, by, left, kinds, tally, sums, y, turned,
         );
-        i += 1;
     }
 }
 
-// The nonzeros of line l that p has taken are given back, one by one, and each crossing line is settled where its count becomes 0.
-fn give_all(
-    starts: &[u16; LINE_ROOM],
-    cross: &[u16; CROSS_ROOM],
-    marks: &[u8; LINE_ROOM],
-    by: &mut [u16; BY_ROOM],
-    left: &mut [u16; LINE_ROOM],
-    kinds: &mut [u8; LINE_ROOM],
-    tally: &mut [u16; TALLY_ROOM],
-    sums: &mut [u32; SUM_ROOM],
-    l: usize,
-    p: usize,
-)
-    requires { Gives starts.now cross.now marks.now by.old left.old kinds.old tally.old sums.old l p }
-    ensures { (P : Pattern) (μ : Marking) → Laid P starts.now cross.now → l < lines P → μ l ≡ unmarked →
-        Stage P μ p (meets P l) marks.now by.old left.old kinds.old tally.old sums.old →
-        Stage P μ p none marks.now by.new left.new kinds.new tally.new sums.new }
-{
-    let mut i = wide16(starts[l]);
-    let end = wide16(starts[l + 1]);
-    while i < end {
-        let y = wide16(cross[i]);
-        give_one(by, left, kinds, tally, sums, y, p);
-        let turned = by[LINE_ROOM * p + y] == 0;
-        settle_if(
-            starts, cross, marks, by, left, kinds, tally, sums, y, turned,
-        );
-        i += 1;
-    }
-}
+impl Kept {
+    ghost use Rattle.running.specs.Kept.{KeepsOn, PushableOn, PoppableOn};
 
-// Line l, which is unmarked, gets mark p.
-pub(crate) fn push(
-    starts: &[u16; LINE_ROOM],
-    cross: &[u16; CROSS_ROOM],
-    marks: &mut [u8; LINE_ROOM],
-    by: &mut [u16; BY_ROOM],
-    left: &mut [u16; LINE_ROOM],
-    kinds: &mut [u8; LINE_ROOM],
-    tally: &mut [u16; TALLY_ROOM],
-    sums: &mut [u32; SUM_ROOM],
-    loads: &mut [u16; LOAD_ROOM],
-    l: usize,
-    p: u8,
-)
-    requires { Pushable starts.now cross.now marks.old by.old left.old kinds.old tally.old sums.old loads.old l p }
-    ensures { (P : Pattern) (μ : Marking) → Laid P starts.now cross.now → Placeable P μ l p →
-        Holds P μ marks.old by.old left.old kinds.old tally.old sums.old loads.old →
-        Holds P (marking_with μ l p) marks.new by.new left.new kinds.new tally.new sums.new loads.new }
-{
-    marks[l] = p;
-    settle(starts, cross, marks, by, left, kinds, tally, sums, l);
-    let mark = wide(p);
-    if mark < 2 {
-        loads[mark] = loads[mark] + left[l];
-        take_all(starts, cross, marks, by, left, kinds, tally, sums, l, mark);
-    } else {
-        loads[2] = loads[2] + 1;
+    // Line l, which is unmarked, gets mark p.
+    // Kept: the arrays go on apart, each by its own `&mut`: a loop of stores through one `&mut self`, as measured, took 1.2 to 2 times as long.
+    pub(crate) fn push(&mut self, tables: &Tables<'_>, l: usize, p: u8)
+        requires { PushableOn tables.now self.old l p }
+        ensures { (μ : Marking) → Placeable (pattern_in tables.now.matrix) μ l p →
+            KeepsOn tables.now μ self.old → KeepsOn tables.now (marking_with μ l p) self.new }
+    {
+        let Kept {
+            marks,
+            by,
+            left,
+            kinds,
+            tally,
+            sums,
+            loads,
+        } = self;
+        let Tables { starts, cross, .. } = tables;
+        marks[l] = p;
+        settle(starts, cross, marks, by, left, kinds, tally, sums, l);
+        let mark = usize::from(p);
+        if mark < 2 {
+            loads[mark] = loads[mark] + left[l];
+            count_all(
+                starts, cross, marks, by, left, kinds, tally, sums, l, mark, true,
+            );
+        } else {
+            loads[2] = loads[2] + 1;
+        }
     }
-}
 
-// Line l loses its mark, the last that was placed.
-pub(crate) fn pop(
-    starts: &[u16; LINE_ROOM],
-    cross: &[u16; CROSS_ROOM],
-    marks: &mut [u8; LINE_ROOM],
-    by: &mut [u16; BY_ROOM],
-    left: &mut [u16; LINE_ROOM],
-    kinds: &mut [u8; LINE_ROOM],
-    tally: &mut [u16; TALLY_ROOM],
-    sums: &mut [u32; SUM_ROOM],
-    loads: &mut [u16; LOAD_ROOM],
-    l: usize,
-)
-    requires { Poppable starts.now cross.now marks.old by.old left.old kinds.old tally.old sums.old loads.old l }
-    ensures { (P : Pattern) (μ : Marking) (p : ℕ) → Laid P starts.now cross.now → Placeable P μ l p →
-        Holds P (marking_with μ l p) marks.old by.old left.old kinds.old tally.old sums.old loads.old →
-        Holds P μ marks.new by.new left.new kinds.new tally.new sums.new loads.new }
-{
-    let mark = wide(marks[l]);
-    if mark < 2 {
-        give_all(starts, cross, marks, by, left, kinds, tally, sums, l, mark);
-        loads[mark] = loads[mark] - left[l];
-    } else {
-        loads[2] = loads[2] - 1;
+    // Line l loses its mark, the last that was placed.
+    pub(crate) fn pop(&mut self, tables: &Tables<'_>, l: usize)
+        requires { PoppableOn tables.now self.old l }
+        ensures { (μ : Marking) (p : ℕ) → Placeable (pattern_in tables.now.matrix) μ l p →
+            KeepsOn tables.now (marking_with μ l p) self.old → KeepsOn tables.now μ self.new }
+    {
+        let Kept {
+            marks,
+            by,
+            left,
+            kinds,
+            tally,
+            sums,
+            loads,
+        } = self;
+        let Tables { starts, cross, .. } = tables;
+        let mark = usize::from(marks[l]);
+        let mut gain = 1;
+        if mark < 2 {
+            count_all(
+                starts, cross, marks, by, left, kinds, tally, sums, l, mark, false,
+            );
+            gain = left[l];
+        }
+        loads[mark] -= gain;
+        marks[l] = 3;
+        settle(starts, cross, marks, by, left, kinds, tally, sums, l);
     }
-    marks[l] = 3;
-    settle(starts, cross, marks, by, left, kinds, tally, sums, l);
 }

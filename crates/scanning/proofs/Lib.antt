@@ -1,2 +1,3 @@
+pub mod Bytes
+pub mod Joins
 pub mod Scans
-pub mod Values

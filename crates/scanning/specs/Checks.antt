@@ -1,10 +1,9 @@
 -- Checks at a place of a text.
 -- Assumes nothing.
-use Rattle.std.specs.Prelude.{ℕ}
-use Rattle.model.specs.declared.Verdict.{Verdict}
-use Rattle.model.specs.declared.Verdict.TheVariants.{Accepted, Refused}
+use Rattle.std.specs.Prelude.{ℕ, Ok, Err}
+use Rattle.model.specs.Refusal.{Verdict, accepted, refused}
 
 -- the same refusal at another place
-unfoldable pub moved : Verdict → ℕ → Verdict
-moved Accepted place = Accepted
-moved (Refused word _) place = Refused word place
+abbrev pub moved : Verdict → ℕ → Verdict
+moved (Ok _) place = accepted
+moved (Err refusal) place = refused refusal.word place

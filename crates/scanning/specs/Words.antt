@@ -1,6 +1,6 @@
 -- Document 01, 'Texts': words, numbers, and lines of numbers; request 1 of document 02: lines with a real value.
 -- Assumes nothing.
-use Rattle.std.specs.Prelude.{Bool, true, false, List, ℕ, zero, suc, ◌+◌, ◌-◌, ◌*◌, eqb, ltb, leb, length, get_or}
+use Rattle.std.specs.Prelude.{Bool, true, false, Option, Some, None, List, ℕ, zero, suc, ◌+◌, ◌-◌, ◌*◌, eqb, ltb, leb, length, get_or}
 use Rattle.counting.specs.Tests.{◌and◌, pick}
 use Rattle.scanning.specs.declared.Stretch.TheVariants.{Blanks, Nonblanks, Digits}
 use Rattle.scanning.specs.declared.Field.{Field}
@@ -41,15 +41,15 @@ value_of text from (suc k) = value_of text from k * 10 + digit_of (get_or text (
 unfoldable pub number_value : List ℕ → ℕ → ℕ → ℕ
 number_value text from stop = pick (is_number text from stop) (value_of text from (stop - from)) 0
 
--- the next word as a number
+-- the number between two places, where there is one
+unfoldable pub number_between : List ℕ → ℕ → ℕ → Option ℕ
+number_between text from stop = pick (is_number text from stop) (Some (value_of text from (stop - from))) None
+
+-- the next word as a number, where it is one
 unfoldable pub number_at : List ℕ → ℕ → ℕ → Number
 number_at text at end =
     let word = word_at text at end in
-    record {
-      fine = is_number text word.from word.stop;
-      value = number_value text word.from word.stop;
-      stop = word.stop;
-    }
+    record { value = number_between text word.from word.stop; stop = word.stop }
 
 -- no word is left: blanks may also end a line
 unfoldable pub ends_at : List ℕ → ℕ → ℕ → Bool
@@ -57,24 +57,26 @@ ends_at text at end = eqb (stretch_end Blanks text at end) end
 
 -- what stands after i and j: nothing for pattern, p for integer, a real value for real, which is skipped; without p it counts as 1
 abbrev pub third_at : Field → List ℕ → ℕ → ℕ → Number
-third_at Pattern text at end = record { fine = true; value = 1; stop = at }
+third_at Pattern text at end = record { value = Some 1; stop = at }
 third_at Integer text at end = number_at text at end
 third_at Real text at end =
     let word = word_at text at end in
-    record { fine = is_real text word.from word.stop; value = 1; stop = word.stop }
+    record { value = pick (is_real text word.from word.stop) (Some 1) None; stop = word.stop }
+
+-- three numbers, where each of them is there
+unfoldable pub all_three : Option ℕ → Option ℕ → Option ℕ → Option Numbers
+all_three None second third = None
+all_three (Some a) None third = None
+all_three (Some a) (Some b) None = None
+all_three (Some a) (Some b) (Some c) = Some (record { first = a; second = b; third = c })
 
 -- "i j", "i j p" or "i j v", and no further word
-unfoldable pub numbers_at : List ℕ → ℕ → ℕ → Field → Numbers
+unfoldable pub numbers_at : List ℕ → ℕ → ℕ → Field → Option Numbers
 numbers_at text at end field =
     let a = number_at text at end in
     let b = number_at text a.stop end in
     let c = third_at field text b.stop end in
-    record {
-      fine = (a.fine and b.fine) and (c.fine and ends_at text c.stop end);
-      first = a.value;
-      second = b.value;
-      third = c.value;
-    }
+    pick (ends_at text c.stop end) (all_three a.value b.value c.value) None
 
 -- F is integer: its entries have parts
 abbrev pub is_integer : Field → Bool

@@ -8,7 +8,7 @@ pub mod tests;
 pub mod words;
 
 // The class of a byte.
-#[derive(Clone, Copy)]
+#[derive(Clone, Copy, PartialEq, Eq)]
 pub enum Class {
     Digit,
     Blank,
@@ -28,7 +28,7 @@ pub enum Stretch {
 }
 
 // The field of a text: what its entries have beside row and column, nothing, a part or a real value.
-#[derive(Clone, Copy)]
+#[derive(Clone, Copy, PartialEq, Eq)]
 pub enum Field {
     Pattern,
     Integer,
@@ -42,18 +42,16 @@ pub struct Span {
     pub stop: usize,
 }
 
-// The next word of a line as a number, and where it stops.
+// The next word of a line as a number, where it is one, and where it stops.
 #[derive(Clone, Copy)]
 pub struct Number {
-    pub fine: bool,
-    pub value: u32,
+    pub value: Option<u32>,
     pub stop: usize,
 }
 
 // The numbers of a line; where it has no third number, that is 1.
 #[derive(Clone, Copy)]
 pub struct Numbers {
-    pub fine: bool,
     pub first: u32,
     pub second: u32,
     pub third: u32,

@@ -4,18 +4,15 @@ ghost use Rattle.scanning.specs.Reals.{past_either, is_exponent, is_real};
 
 use crate::Stretch;
 use crate::lines::stretch_end;
-use counting::joining::{both_of, either_of};
 use pattern::reading::byte_at;
 
 // Past the byte at a place before `stop`, where it is one of two.
+#[tactic(auto, using(crate::proofs::Joins::joins), unfolding(crate::specs::Reals::past_either))]
 fn past_either(text: &[u8], at: usize, stop: usize, one: u8, other: u8) -> usize
     ensures { result ≡ past_either text.now at stop one other }
 {
-    if stop <= at {
-        return at;
-    }
     let b = byte_at(text, at);
-    if either_of(b == one, b == other) {
+    if at < stop && (b == one || b == other) {
         at + 1
     } else {
         at
@@ -23,17 +20,18 @@ fn past_either(text: &[u8], at: usize, stop: usize, one: u8, other: u8) -> usize
 }
 
 // An exponent up to `stop`: e or E, an optional sign, and at least one digit.
+#[tactic(auto, using(crate::proofs::Joins::joins), unfolding(crate::specs::Reals::is_exponent))]
 fn is_exponent(text: &[u8], at: usize, stop: usize) -> bool
     ensures { result ≡ is_exponent text.now at stop }
 {
     let letter = past_either(text, at, stop, b'e', b'E');
     let from = past_either(text, letter, stop, b'+', b'-');
     let end = stretch_end(text, Stretch::Digits, from, stop);
-    let begun = both_of(at < letter, from < end);
-    both_of(begun, end == stop)
+    at < letter && from < end && end == stop
 }
 
 // A real value between two places: an optional sign, digits with an optional point, and an optional exponent.
+#[tactic(auto, using(crate::proofs::Joins::joins), unfolding(crate::specs::Reals::is_real))]
 pub fn is_real(text: &[u8], from: usize, stop: usize) -> bool
     ensures { result ≡ is_real text.now from stop }
 {
@@ -41,7 +39,5 @@ pub fn is_real(text: &[u8], from: usize, stop: usize) -> bool
     let point = stretch_end(text, Stretch::Digits, start, stop);
     let after = past_either(text, point, stop, b'.', b'.');
     let end = stretch_end(text, Stretch::Digits, after, stop);
-    let digits = either_of(start < point, after < end);
-    let exponent = is_exponent(text, end, stop);
-    both_of(digits, either_of(end == stop, exponent))
+    (start < point || after < end) && (end == stop || is_exponent(text, end, stop))
 }

@@ -8,23 +8,23 @@ use native.Mathlib.Omega.{arith}
 use lib.Dec.{ltb}
 use borrow.Author.Tests.{ltb-false}
 use Rattle.counting.proofs.Joined.{or_fails_right}
+use Rattle.std.specs.Prelude.{Result, Ok, Err}
+use Rattle.model.specs.declared.Refusal.{Refusal}
+use Rattle.model.specs.Refusal.{Verdict, accepted, refused}
 use Rattle.model.specs.declared.Word.{Word}
 use Rattle.model.specs.declared.Word.TheVariants.{Budget}
-use Rattle.model.specs.declared.Verdict.{Verdict}
-use Rattle.model.specs.declared.Verdict.TheVariants.{Accepted, Refused}
 use Rattle.model.specs.declared.Caps.{Caps}
 use Rattle.model.specs.declared.Search.{Search}
-use Rattle.model.specs.declared.Opened.{Opened}
 use Rattle.model.specs.declared.Ran.{Ran}
-use Rattle.model.specs.declared.RunAnswer.TheVariants as run-answer
-use Rattle.model.specs.declared.ShowAnswer.{ShowAnswer}
+use Rattle.model.specs.declared.Ended.TheVariants as ends
+use Rattle.model.specs.declared.Shown.{Shown}
 use Rattle.model.specs.Limits.{budget_limit, tries_limit}
 use Rattle.model.specs.Pattern.{Pattern, pattern_of, line_total}
 use Rattle.model.specs.Walk.{Record, rules_of, fresh_of, walk, walked}
 use Rattle.model.specs.State.{record_of, search_of}
-use Rattle.model.specs.Calls.{open_verdict, run_verdict, opened_after, open_call, ended, ran_record, ran_after}
+use Rattle.model.specs.Calls.{open_verdict, run_verdict, open_call, ended, ran_record, ran_after}
 use Rattle.model.proofs.Walk.Ending.{walk_counts, fresh_tries}
-use Rattle.model.proofs.Theorems.Checks.{then-second, refuse-not}
+use Rattle.model.proofs.Theorems.Checks.{then-second, refuse-not, answered_by, verdict_back}
 use Rattle.model.proofs.Theorems.Ends.{walked_adds}
 use Rattle.model.proofs.Theorems.Replies.{open_replies_lem}
 use Rattle.search.specs.History.{accepted_budget, Handed, run_of, show_of, parts_of, run_table, show_table, History, opened, ran, showed}
@@ -35,16 +35,15 @@ use Rattle.search.proofs.Points.{walked-back, walked_caps, walked-runs, show-roo
 use Rattle.search.proofs.Wanting.{accepts_exactly, refuses_exactly}
 
 -- an accepted run's budget counts, and a refused one's does not
-pub ended_budget : (done : Bool) (looks budget : ℕ) → accepted_budget (ended done looks) budget ≡ budget
-unfolding accepted_budget ended
-ended_budget true looks budget = refl
-ended_budget false looks budget = refl
+pub ended_budget : (done : Bool) (looks budget : ℕ) → accepted_budget (Ok (ended done looks)) budget ≡ budget
+unfolding accepted_budget
+ended_budget done looks budget = refl
 
-refused_budget : (word : Word) (place budget : ℕ) → accepted_budget (run-answer.Refused word place) budget ≡ 0
+refused_budget : (word : Word) (place budget : ℕ) → accepted_budget (refused word place) budget ≡ 0
 unfolding accepted_budget
 refused_budget word place budget = refl
 
-module _ (m n nonzeros : ℕ) (list : List ℕ) (caps : Caps) (accepted : open_verdict m n nonzeros list caps ≡ Accepted) where
+module _ (m n nonzeros : ℕ) (list : List ℕ) (caps : Caps) (opening : open_verdict m n nonzeros list caps ≡ accepted) where
   -- the pattern
   abbrev P : Pattern
   P = pattern_of m n nonzeros list
@@ -59,7 +58,7 @@ module _ (m n nonzeros : ℕ) (list : List ℕ) (caps : Caps) (accepted : open_v
 
   -- an accepted run is within the limit on tries
   run_limit :
-      (handed : Handed m n nonzeros list) (total budget : ℕ) → run_table (walked P caps total) handed budget ≡ Accepted →
+      (handed : Handed m n nonzeros list) (total budget : ℕ) → run_table (walked P caps total) handed budget ≡ accepted →
       (walked P caps total).tries + budget ≤ tries_limit
   unfolding run_verdict
   run_limit handed total budget h =
@@ -82,7 +81,7 @@ module _ (m n nonzeros : ℕ) (list : List ℕ) (caps : Caps) (accepted : open_v
   -- a run of the walk's search
   search_runs : (s : Search) (total budget : ℕ) → Kept s total → ran_record (record_of s) P budget ≡ walked P caps (total + budget)
   search_runs s total budget k =
-      ap (λ (r : Record). ran_record r P budget) (ap record_of k.same ∙ walked-back m n nonzeros list caps accepted total) ∙ walked-runs m n nonzeros list caps accepted total budget
+      ap (λ (r : Record). ran_record r P budget) (ap record_of k.same ∙ walked-back m n nonzeros list caps opening total) ∙ walked-runs m n nonzeros list caps opening total budget
 
   -- the search after a run, by the run's verdict
   run_keeps :
@@ -90,21 +89,21 @@ module _ (m n nonzeros : ℕ) (list : List ℕ) (caps : Caps) (accepted : open_v
       run_table (walked P caps total) handed budget ≡ v →
       Kept (ran_after v s P budget).search (total + accepted_budget (ran_after v s P budget).answer budget)
   unfolding ran_after
-  run_keeps handed s total budget k Accepted e =
+  run_keeps handed s total budget k (Ok _) e =
       kept_total
       (ap (total +◌) (sym (ended_budget (ran_record (record_of s) P budget).complete (ran_record (record_of s) P budget).looks budget)))
       (record {
         same = ap search_of (search_runs s total budget k);
         limit = omega (arith, walked_more total budget, run_limit handed total budget e);
       })
-  run_keeps handed s total budget k (Refused word place) e =
-      kept_total (sym (ap (total +◌) (refused_budget word place budget) ∙ plus_none total)) k
+  run_keeps handed s total budget k (Err refusal) e =
+      kept_total (sym (ap (total +◌) (refused_budget refusal.word refusal.place budget) ∙ plus_none total)) k
     where
       plus_none : (t : ℕ) → t + 0 ≡ t
       plus_none t = omega arith
 
   demanded : {s : Search} {total : ℕ} → Kept s total → Demand m n nonzeros list caps s total
-  demanded {s} {total} k = demand_at m n nonzeros list caps accepted s total k.same k.limit
+  demanded {s} {total} k = demand_at m n nonzeros list caps opening s total k.same k.limit
 
   -- a run of a history: what it leaves, and what it answered
   module _
@@ -126,7 +125,7 @@ module _ (m n nonzeros : ℕ) (list : List ℕ) (caps : Caps) (accepted : open_v
 
   -- a showing of a history: what it answered
   module _
-      (s : Search) (total : ℕ) (k : Kept s total) (handed : Handed m n nonzeros list) (parts after : List ℕ) (answer : ShowAnswer)
+      (s : Search) (total : ℕ) (k : Kept s total) (handed : Handed m n nonzeros list) (parts after : List ℕ) (answer : Result Shown Refusal)
       (called : answer ≡ show_of s handed parts)
       (written : after ≡ parts_of s handed parts) where
     showed_answered : ShowAnswered P caps (walked P caps total) (show_table (walked P caps total) handed parts) parts answer after
@@ -140,45 +139,38 @@ module _ (m n nonzeros : ℕ) (list : List ℕ) (caps : Caps) (accepted : open_v
         d.floor_below
         d.complete_closed
         parts
-        (walked_caps m n nonzeros list caps accepted total)
+        (walked_caps m n nonzeros list caps opening total)
         (show_table (walked P caps total) handed parts)
-        (show-room m n nonzeros list caps accepted handed total parts)
+        (show-room m n nonzeros list caps opening handed total parts)
         answer
         after
         (called ∙ d.show_is handed parts)
         (written ∙ d.parts_are handed parts)
-
-  -- the search of an accepted opening
-  opened-is : opened_after Accepted P caps ≡ search_of (walked P caps 0)
-  unfolding opened_after walked walk
-  opened-is = refl
 
   -- it has made no tries
   pub opened-none : (walked P caps 0).tries ≡ 0
   unfolding walked walk fresh_of
   opened-none = fresh_tries P.m P.n P.size caps (line_total P)
 
-  opened_keeps : (answer : Opened) → answer ≡ open_call m n nonzeros list caps → Kept answer.search 0
-  unfolding open_call
-  opened_keeps answer called =
+  opened_keeps : (s : Search) → open_call m n nonzeros list caps ≡ Ok s → Kept s 0
+  unfolding open_call walked walk
+  opened_keeps s called =
       record {
-        same = ap (λ (a : Opened). a.search) called
-            ∙ ap (λ (v : Verdict). opened_after v P caps) accepted
-            ∙ opened-is;
+        same = sym (answered_by _ _ called).1;
         limit = omega (arith, opened-none);
       }
 
   -- the search at every point of a history
   history_keeps :
       {s : Search} {total : ℕ} → History m n nonzeros list caps s total → Kept s total
-  history_keeps (opened answer called fine) = opened_keeps answer called
+  history_keeps (opened s called) = opened_keeps s called
   history_keeps (ran {s} {total} h handed budget answer called) =
       ran_keeps s total (history_keeps h) handed budget answer called
   history_keeps (showed h handed parts after answer called written) = history_keeps h
 
   -- demand 3 throughout a history
   throughout_accepted : {s : Search} {total : ℕ} (h : History m n nonzeros list caps s total) → Throughout h
-  throughout_accepted (opened answer called fine) = demanded (opened_keeps answer called)
+  throughout_accepted (opened s called) = demanded (opened_keeps s called)
   throughout_accepted (ran {s} {total} h handed budget answer called) =
       let k = history_keeps h in (
         throughout_accepted h,
@@ -195,9 +187,9 @@ module _ (m n nonzeros : ℕ) (list : List ℕ) (caps : Caps) (accepted : open_v
 -- a history begins with an accepted opening
 history_accepted :
     {m n nonzeros : ℕ} {list : List ℕ} {caps : Caps} {s : Search} {total : ℕ} →
-    History m n nonzeros list caps s total → open_verdict m n nonzeros list caps ≡ Accepted
+    History m n nonzeros list caps s total → open_verdict m n nonzeros list caps ≡ accepted
 unfolding open_call
-history_accepted (opened answer called fine) = sym (ap (λ (a : Opened). a.verdict) called) ∙ fine
+history_accepted (opened s called) = (answered_by _ _ called).0
 history_accepted (ran h handed budget answer called) = history_accepted h
 history_accepted (showed h handed parts after answer called written) = history_accepted h
 
@@ -207,8 +199,8 @@ unfolding open_call
 demand_3 m n nonzeros list caps =
     record {
       throughout = λ h. throughout_accepted m n nonzeros list caps (history_accepted h) h;
-      opens = refl;
+      opens = verdict_back _ _;
       opens_reply = open_replies_lem m n nonzeros list caps;
-      accepts = accepts_exactly m n nonzeros list caps;
-      refuses = refuses_exactly m n nonzeros list caps;
+      accepts = rw (verdict_back (open_verdict m n nonzeros list caps) (search_of (fresh_of (pattern_of m n nonzeros list) caps))) (accepts_exactly m n nonzeros list caps);
+      refuses = rw (verdict_back (open_verdict m n nonzeros list caps) (search_of (fresh_of (pattern_of m n nonzeros list) caps))) (refuses_exactly m n nonzeros list caps);
     }

@@ -1,16 +1,15 @@
 -- What a call is handed: where the table, read with a record of the walk, refuses neither list nor state, its pattern is the opening's.
 -- Assumes nothing.
+use Rattle.std.specs.Prelude.{Ok, Err}
 use mathlib.Core.Bool.{not}
 use mathlib.Core.List.{List}
 use mathlib.Core.Path.{◌≡◌, refl, sym, ◌∙◌}
 use Prim.Native.Nat.{ℕ}
 use borrow.Author.Tests.{not-false}
 use Rattle.model.specs.declared.Word.TheVariants.{State}
-use Rattle.model.specs.declared.Verdict.{Verdict}
-use Rattle.model.specs.declared.Verdict.TheVariants.{Accepted, Refused}
 use Rattle.model.specs.declared.Caps.{Caps}
 use Rattle.model.specs.declared.Search.{Search}
-use Rattle.model.specs.Refusal.{refuse, ◌then◌}
+use Rattle.model.specs.Refusal.{Verdict, accepted, refused, refuse, ◌then◌}
 use Rattle.model.specs.Pattern.{Pattern, pattern_of}
 use Rattle.model.specs.Walk.{Record, rules_of}
 use Rattle.model.specs.State.{state_fine}
@@ -34,7 +33,7 @@ module _ {m n nonzeros : ℕ} {list : List ℕ} (handed : Handed m n nonzeros li
 
   -- a slice that passes them holds the pattern
   pub handed_alike :
-      front ≡ Accepted →
+      front ≡ accepted →
       Alike (pattern_of handed.rows handed.columns handed.size handed.slice) (pattern_of m n nonzeros list)
   handed_alike h =
       let fine = not-false _ (refuse-not _ State 0 (then-second _ _ h)) in
@@ -48,23 +47,23 @@ module _ {m n nonzeros : ℕ} {list : List ℕ} (handed : Handed m n nonzeros li
 
 -- where nothing is refused the two patterns are alike, and a refusal is the same for any: what a run answers
 pub ran_same :
-    (P Q : Pattern) (v : Verdict) (s : Search) (budget : ℕ) → (v ≡ Accepted → Alike P Q) →
+    (P Q : Pattern) (v : Verdict) (s : Search) (budget : ℕ) → (v ≡ accepted → Alike P Q) →
     ran_after v s P budget ≡ ran_after v s Q budget
 unfolding ran_after
-ran_same P Q Accepted s budget a = alike_ran (a refl) Accepted s budget
-ran_same P Q (Refused word place) s budget a = refl
+ran_same P Q (Ok _) s budget a = alike_ran (a refl) accepted s budget
+ran_same P Q (Err refusal) s budget a = refl
 
 -- what a showing answers
 pub shown_same :
-    (P Q : Pattern) (v : Verdict) (r : Record) → (v ≡ Accepted → Alike P Q) → shown_after v r P ≡ shown_after v r Q
+    (P Q : Pattern) (v : Verdict) (r : Record) → (v ≡ accepted → Alike P Q) → shown_after v r P ≡ shown_after v r Q
 unfolding shown_after
-shown_same P Q Accepted r a = alike_shown-answer (a refl) Accepted r
-shown_same P Q (Refused word place) r a = refl
+shown_same P Q (Ok _) r a = alike_shown-answer (a refl) accepted r
+shown_same P Q (Err refusal) r a = refl
 
 -- and its parts
 pub parts_same :
-    (P Q : Pattern) (v : Verdict) (r : Record) (parts : List ℕ) → (v ≡ Accepted → Alike P Q) →
+    (P Q : Pattern) (v : Verdict) (r : Record) (parts : List ℕ) → (v ≡ accepted → Alike P Q) →
     parts_after v r P parts ≡ parts_after v r Q parts
 unfolding parts_after
-parts_same P Q Accepted r parts a = alike_parts (a refl) Accepted r parts
-parts_same P Q (Refused word place) r parts a = refl
+parts_same P Q (Ok _) r parts a = alike_parts (a refl) accepted r parts
+parts_same P Q (Err refusal) r parts a = refl

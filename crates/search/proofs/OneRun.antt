@@ -8,22 +8,23 @@ use Prim.Native.Nat.{ℕ, ◌+◌, ◌≤◌, ◌<◌}
 use native.Mathlib.Omega.{arith}
 use lib.ListN.{length, get_or}
 use borrow.Author.Tests.{le-ltb}
+use Rattle.std.specs.Prelude.{Result, Ok, Err}
+use Rattle.model.specs.declared.Refusal.{Refusal}
 use Rattle.model.specs.declared.Part.{Part}
 use Rattle.model.specs.declared.Part.TheVariants.{Zero, One}
 use Rattle.model.specs.declared.Word.TheVariants.{BadPart, ShortBuffer, Budget, State}
-use Rattle.model.specs.declared.Verdict.{Verdict}
-use Rattle.model.specs.declared.Verdict.TheVariants.{Accepted, Refused}
 use Rattle.model.specs.declared.Caps.{Caps}
-use Rattle.model.specs.declared.RunAnswer.{RunAnswer}
-use Rattle.model.specs.declared.RunAnswer.TheVariants as run-answer
+use Rattle.model.specs.declared.Ended.{Ended}
+use Rattle.model.specs.declared.Ended.TheVariants as ends
+use Rattle.model.specs.declared.Search.{Search}
 use Rattle.model.specs.declared.Ran.{Ran}
-use Rattle.model.specs.declared.ShowAnswer.{ShowAnswer}
-use Rattle.model.specs.declared.ShowAnswer.TheVariants as show-answer
+use Rattle.model.specs.declared.Shown.{Shown}
+use Rattle.model.specs.declared.Shown.TheVariants as showing
 use Rattle.model.specs.Limits.{budget_limit}
-use Rattle.model.specs.Refusal.{refuse, ◌then◌}
+use Rattle.model.specs.Refusal.{Verdict, accepted, refused, refuse, ◌then◌}
 use Rattle.model.specs.Pattern.{Pattern, pattern_of}
 use Rattle.model.specs.Split.{part_number}
-use Rattle.model.specs.Walk.{Record, rules_of, walked}
+use Rattle.model.specs.Walk.{Record, rules_of, fresh_of, walked}
 use Rattle.model.specs.State.{caps_in, record_of, search_of, state_fine}
 use Rattle.model.specs.Calls.{list_verdict, open_verdict, run_verdict, show_verdict, open_call, ended, ran_record, ran_after, run_call, shown_from, show_call, show_parts}
 use Rattle.model.proofs.Theorems.Checks.{refuse_no, then_accepted, each_fine}
@@ -47,7 +48,7 @@ part_byte : (byte : ℕ) (p : Part) → byte ≡ part_number p → byte ≤ 1
 part_byte byte Zero e = omega arith
 part_byte byte One e = omega arith
 
-module _ (m n nonzeros : ℕ) (list : List ℕ) (caps : Caps) (budget : ℕ) (opens : open_verdict m n nonzeros list caps ≡ Accepted) where
+module _ (m n nonzeros : ℕ) (list : List ℕ) (caps : Caps) (budget : ℕ) (opens : open_verdict m n nonzeros list caps ≡ accepted) where
   -- the pattern, and the walk's record after some tries
   abbrev P : Pattern
   P = pattern_of m n nonzeros list
@@ -55,7 +56,7 @@ module _ (m n nonzeros : ℕ) (list : List ℕ) (caps : Caps) (budget : ℕ) (op
   abbrev after : ℕ → Record
   after tries = walked P caps tries
 
-  listed : list_verdict m n nonzeros list ≡ Accepted
+  listed : list_verdict m n nonzeros list ≡ accepted
   listed = (open_accepted m n nonzeros list caps opens).listed
 
   -- a state of the walk passes the checks of its list and of its state
@@ -63,7 +64,7 @@ module _ (m n nonzeros : ℕ) (list : List ℕ) (caps : Caps) (budget : ℕ) (op
       (tries : ℕ) → state_fine (rules_of P caps) m n nonzeros (after tries) ≡ true →
       list_verdict m n nonzeros list
       then refuse (not (state_fine (rules_of P (after tries).caps) m n nonzeros (after tries))) State 0
-      ≡ Accepted
+      ≡ accepted
   state_passes tries fine =
       then_accepted _ listed
       ∙ refuse_no
@@ -71,15 +72,18 @@ module _ (m n nonzeros : ℕ) (list : List ℕ) (caps : Caps) (budget : ℕ) (op
       0
       (ap not (ap (λ (c : Caps). state_fine (rules_of P c) m n nonzeros (after tries)) (walked_caps m n nonzeros list caps opens tries) ∙ fine))
 
-  -- the opening
-  opens-call : (open_call m n nonzeros list caps).verdict ≡ Accepted
+  -- the opening, and the search that it answers
+  abbrev pub Fresh : Search
+  Fresh = search_of (fresh_of P caps)
+
+  pub opens_call : open_call m n nonzeros list caps ≡ Ok Fresh
   unfolding open_call
-  opens-call = opens
+  opens_call = then_accepted _ opens
 
-  abbrev start : History m n nonzeros list caps (open_call m n nonzeros list caps).search 0
-  start = opened (open_call m n nonzeros list caps) refl opens-call
+  abbrev start : History m n nonzeros list caps Fresh 0
+  start = opened Fresh opens_call
 
-  at_start : Demand m n nonzeros list caps (open_call m n nonzeros list caps).search 0
+  at_start : Demand m n nonzeros list caps Fresh 0
   at_start = (demand_3 m n nonzeros list caps).throughout start
 
   -- what each call is handed
@@ -92,12 +96,12 @@ module _ (m n nonzeros : ℕ) (list : List ℕ) (caps : Caps) (budget : ℕ) (op
   runs = then_accepted _ (state_passes 0 at_start.fine)
 
   abbrev pub Run : Ran
-  Run = run_call (open_call m n nonzeros list caps).search m n nonzeros list budget
+  Run = run_call Fresh m n nonzeros list budget
 
-  run_is : (v : Verdict) → v ≡ budget_by (after 0).tries budget → Run ≡ ran_after v (open_call m n nonzeros list caps).search P budget
+  run_is : (v : Verdict) → v ≡ budget_by (after 0).tries budget → Run ≡ ran_after v Fresh P budget
   run_is v e =
       at_start.run_is handed budget
-      ∙ ap (λ (v : Verdict). ran_after v (open_call m n nonzeros list caps).search P budget) (runs ∙ sym e)
+      ∙ ap (λ (v : Verdict). ran_after v Fresh P budget) (runs ∙ sym e)
 
   -- whatever the run answers, demand 3 holds after it
   at_answer : Demand m n nonzeros list caps Run.search (0 + accepted_budget Run.answer budget)
@@ -108,21 +112,21 @@ module _ (m n nonzeros : ℕ) (list : List ℕ) (caps : Caps) (budget : ℕ) (op
   run_caps = ap caps_in at_answer.whole ∙ search_caps _ ∙ walked_caps m n nonzeros list caps opens _
 
   -- a budget over its range is refused 13
-  pub run_refused : budget_limit < budget → Run.answer ≡ run-answer.Refused Budget 0
+  pub run_refused : budget_limit < budget → Run.answer ≡ refused Budget 0
   unfolding ran_after
-  run_refused over = ap (λ (a : Ran). a.answer) (run_is (Refused Budget 0) (budget_over _ budget over))
+  run_refused over = ap (λ (a : Ran). a.answer) (run_is (refused Budget 0) (budget_over _ budget over))
 
   -- with one in its range the run is accepted
   module _ (within : budget ≤ budget_limit) where
     abbrev pub End : Record
-    End = ran_record (record_of (open_call m n nonzeros list caps).search) P budget
+    End = ran_record (record_of Fresh) P budget
 
-    pub run_ended : Run.answer ≡ ended End.complete End.looks
+    pub run_ended : Run.answer ≡ Ok (ended End.complete End.looks)
     unfolding ran_after
-    run_ended = ap (λ (a : Ran). a.answer) (run_is Accepted (budget_taken _ budget within (omega (arith, opened-none m n nonzeros list caps opens))))
+    run_ended = ap (λ (a : Ran). a.answer) (run_is accepted (budget_taken _ budget within (omega (arith, opened-none m n nonzeros list caps opens))))
 
     counts : accepted_budget Run.answer budget ≡ budget
-    counts = ap (λ (a : RunAnswer). accepted_budget a budget) run_ended ∙ ended_budget _ _ budget
+    counts = ap (λ (a : Result Ended Refusal). accepted_budget a budget) run_ended ∙ ended_budget _ _ budget
 
     pub at_end : Demand m n nonzeros list caps Run.search budget
     at_end =
@@ -130,28 +134,28 @@ module _ (m n nonzeros : ℕ) (list : List ℕ) (caps : Caps) (budget : ℕ) (op
 
     -- the showing
     module _ (parts : List ℕ) where
-      abbrev pub Shown : ShowAnswer
-      Shown = show_call Run.search m n nonzeros list parts
+      abbrev pub Told : Result Shown Refusal
+      Told = show_call Run.search m n nonzeros list parts
 
       abbrev pub Left : List ℕ
       Left = show_parts Run.search m n nonzeros list parts
 
       pub told :
-          ShowAnswered P caps (after budget) (show_verdict (after budget) m n nonzeros list parts) parts Shown Left
+          ShowAnswered P caps (after budget) (show_verdict (after budget) m n nonzeros list parts) parts Told Left
       told =
           subst
-          (λ (total : ℕ). ShowAnswered P caps (after total) (show_verdict (after total) m n nonzeros list parts) parts Shown Left)
+          (λ (total : ℕ). ShowAnswered P caps (after total) (show_verdict (after total) m n nonzeros list parts) parts Told Left)
           (omega (arith, counts))
-          ((demand_3 m n nonzeros list caps).throughout (showed (ran start handed budget Run refl) handed parts Left Shown refl refl)).1
+          ((demand_3 m n nonzeros list caps).throughout (showed (ran start handed budget Run refl) handed parts Left Told refl refl)).1
 
       -- with room for the parts it is accepted
-      pub shows : nonzeros ≤ length parts → show_verdict (after budget) m n nonzeros list parts ≡ Accepted
+      pub shows : nonzeros ≤ length parts → show_verdict (after budget) m n nonzeros list parts ≡ accepted
       unfolding show_verdict
       shows room = then_accepted _ (state_passes budget at_end.fine) ∙ refuse_no ShortBuffer 0 (le-ltb (length parts) nonzeros room)
 
       -- and the parts of a split that it leaves pass their checks
       pub parts_fine :
-          nonzeros ≤ length parts → (volume low : ℕ) → Shown ≡ show-answer.Split volume low → parts_verdict nonzeros Left ≡ Accepted
+          nonzeros ≤ length parts → (volume low : ℕ) → Told ≡ Ok (showing.Split volume low) → parts_verdict nonzeros Left ≡ accepted
       unfolding parts_verdict part_verdict
       parts_fine room volume low e =
           let shown = told.split volume low e in

@@ -8,8 +8,8 @@ use native.Mathlib.Omega.{arith}
 use lib.ListN.{length}
 use borrow.Author.Tests.{ltb-false}
 use Rattle.trail.specs.Trail.{mark_room}
+use Rattle.model.specs.Refusal.{accepted}
 use Rattle.model.specs.declared.Word.TheVariants.{ShortBuffer}
-use Rattle.model.specs.declared.Verdict.TheVariants.{Accepted}
 use Rattle.model.specs.declared.Caps.{Caps}
 use Rattle.model.specs.declared.Search.{Search}
 use Rattle.model.specs.Limits.{tries_limit}
@@ -33,13 +33,13 @@ use Rattle.search.specs.History.{Handed, run_table, show_table}
 use Rattle.search.specs.Demand.{Demand}
 use Rattle.search.proofs.Handing.{handed_alike, ran_same, shown_same, parts_same}
 
-module _ (m n nonzeros : ℕ) (list : List ℕ) (caps : Caps) (accepted : open_verdict m n nonzeros list caps ≡ Accepted) where
+module _ (m n nonzeros : ℕ) (list : List ℕ) (caps : Caps) (opening : open_verdict m n nonzeros list caps ≡ accepted) where
   -- the pattern
   abbrev P : Pattern
   P = pattern_of m n nonzeros list
 
   open_fine : OpenFine m n nonzeros list caps
-  open_fine = open_accepted m n nonzeros list caps accepted
+  open_fine = open_accepted m n nonzeros list caps opening
 
   inside : Inside P
   inside = accepted_inside m n nonzeros list open_fine.listed
@@ -98,19 +98,19 @@ module _ (m n nonzeros : ℕ) (list : List ℕ) (caps : Caps) (accepted : open_v
   pattern_for handed = pattern_of handed.rows handed.columns handed.size handed.slice
 
   run_alike :
-      (handed : Handed m n nonzeros list) (total budget : ℕ) → run_table (walked P caps total) handed budget ≡ Accepted → Alike (pattern_for handed) P
+      (handed : Handed m n nonzeros list) (total budget : ℕ) → run_table (walked P caps total) handed budget ≡ accepted → Alike (pattern_for handed) P
   unfolding run_verdict
   run_alike handed total budget h = handed_alike handed (walked P caps total) caps (walked_for total) (then-first _ _ h)
 
   show_alike :
-      (handed : Handed m n nonzeros list) (total : ℕ) (parts : List ℕ) → show_table (walked P caps total) handed parts ≡ Accepted →
+      (handed : Handed m n nonzeros list) (total : ℕ) (parts : List ℕ) → show_table (walked P caps total) handed parts ≡ accepted →
       Alike (pattern_for handed) P
   unfolding show_verdict
   show_alike handed total parts h = handed_alike handed (walked P caps total) caps (walked_for total) (then-first _ _ h)
 
   -- an accepted showing has room for its parts
   pub show-room :
-      (handed : Handed m n nonzeros list) (total : ℕ) (parts : List ℕ) → show_table (walked P caps total) handed parts ≡ Accepted → P.size ≤ length parts
+      (handed : Handed m n nonzeros list) (total : ℕ) (parts : List ℕ) → show_table (walked P caps total) handed parts ≡ accepted → P.size ≤ length parts
   unfolding show_verdict pattern_of
   show-room handed total parts h =
       let room = ltb-false (length parts) handed.size (refuse-not _ ShortBuffer 0 (then-second _ _ h)) in

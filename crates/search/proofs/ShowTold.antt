@@ -8,13 +8,13 @@ use Prim.Native.Nat.{ℕ, ◌≤◌}
 use native.Mathlib.Omega.{arith}
 use lib.ListN.{length}
 use Rattle.counting.proofs.Joined.{never}
+use Rattle.std.specs.Prelude.{Result, Ok, Err}
+use Rattle.model.specs.declared.Refusal.{Refusal}
 use Rattle.model.specs.declared.Word.{Word}
-use Rattle.model.specs.declared.Verdict.{Verdict}
-use Rattle.model.specs.declared.Verdict.TheVariants.{Accepted, Refused}
 use Rattle.model.specs.declared.Caps.{Caps}
-use Rattle.model.specs.declared.ShowAnswer.{ShowAnswer}
-use Rattle.model.specs.declared.ShowAnswer.TheVariants as show-answer
-use Rattle.model.specs.Refusal.{reply_after}
+use Rattle.model.specs.declared.Shown.{Shown}
+use Rattle.model.specs.declared.Shown.TheVariants as showing
+use Rattle.model.specs.Refusal.{Verdict, accepted, refused, reply_after}
 use Rattle.model.specs.Pattern.{Pattern}
 use Rattle.model.specs.Split.{Split, Meets, volume}
 use Rattle.model.specs.Walk.{Record, rules_of, floor}
@@ -54,11 +54,11 @@ module _
 
   -- a split shown
   found_answered :
-      (best : List ℕ) → r.best ≡ some best → P.size ≤ length parts → (answer : ShowAnswer) (after : List ℕ) →
-      answer ≡ show-answer.Split (volume P (shown_from P caps best)) lowest →
+      (best : List ℕ) → r.best ≡ some best → P.size ≤ length parts → (answer : Result Shown Refusal) (after : List ℕ) →
+      answer ≡ Ok (showing.Split (volume P (shown_from P caps best)) lowest) →
       after ≡ part_bytes (shown_from P caps best) P.size parts →
-      show_reply answer ≡ reply_after Accepted (shown_reply P caps r.best lowest) →
-      ShowAnswered P caps r Accepted parts answer after
+      show_reply answer ≡ reply_after accepted (shown_reply P caps r.best lowest) →
+      ShowAnswered P caps r accepted parts answer after
   found_answered best b room answer after is bytes reply =
       record {
         refused = λ word place. ((λ a. never (cc)), (λ a. never (cc)));
@@ -68,7 +68,7 @@ module _
         none_floor = λ low a σ meets. never (cc);
         found = λ other v e.
             let same : best ≡ other = cc in
-            is ∙ ap (λ (τ : List ℕ). show-answer.Split (volume P (shown_from P caps τ)) lowest) same;
+            is ∙ ap (λ (τ : List ℕ). Ok (showing.Split (volume P (shown_from P caps τ)) lowest)) same;
         split = λ shown low a.
             let volume_same : volume P (shown_from P caps best) ≡ shown = cc in
             let floor-same : lowest ≡ low = cc in
@@ -87,15 +87,15 @@ module _
 
   -- "none yet"
   none_answered :
-      r.best ≡ none → (answer : ShowAnswer) (after : List ℕ) →
-      answer ≡ show-answer.NoneYet lowest → after ≡ parts →
-      show_reply answer ≡ reply_after Accepted (shown_reply P caps r.best lowest) →
-      ShowAnswered P caps r Accepted parts answer after
+      r.best ≡ none → (answer : Result Shown Refusal) (after : List ℕ) →
+      answer ≡ Ok (showing.NoneYet lowest) → after ≡ parts →
+      show_reply answer ≡ reply_after accepted (shown_reply P caps r.best lowest) →
+      ShowAnswered P caps r accepted parts answer after
   none_answered b answer after is bytes reply =
       record {
         refused = λ word place. ((λ a. never (cc)), (λ a. never (cc)));
         unchanged = λ word place a. bytes;
-        none_yet = λ low. ((λ a. (refl, b, cc)), (λ w. is ∙ ap show-answer.NoneYet w.2));
+        none_yet = λ low. ((λ a. (refl, b, cc)), (λ w. is ∙ ap (λ (low : ℕ). Ok (showing.NoneYet low)) w.2));
         none_stays = λ low a. bytes;
         none_floor = λ low a σ meets. let same : lowest ≡ low = cc in omega (arith, floor_below σ meets);
         found = λ best v e. never (cc);
@@ -105,10 +105,10 @@ module _
 
   -- a refusal
   refused_answered :
-      (word : Word) (place : ℕ) (answer : ShowAnswer) (after : List ℕ) →
-      answer ≡ show-answer.Refused word place → after ≡ parts →
-      show_reply answer ≡ reply_after (Refused word place) (shown_reply P caps r.best lowest) →
-      ShowAnswered P caps r (Refused word place) parts answer after
+      (word : Word) (place : ℕ) (answer : Result Shown Refusal) (after : List ℕ) →
+      answer ≡ refused word place → after ≡ parts →
+      show_reply answer ≡ reply_after (refused word place) (shown_reply P caps r.best lowest) →
+      ShowAnswered P caps r (refused word place) parts answer after
   refused_answered word place answer after is bytes reply =
       record {
         refused = λ w p. ((λ a. cc), (λ a. cc));
@@ -123,39 +123,39 @@ module _
 
   -- by the best marking, where nothing is refused
   accepted_answered :
-      (best : Option (List ℕ)) → r.best ≡ best → P.size ≤ length parts → (answer : ShowAnswer) (after : List ℕ) →
-      answer ≡ shown P caps best lowest → after ≡ shown_parts P caps best parts →
-      show_reply answer ≡ reply_after Accepted (shown_reply P caps r.best lowest) →
-      ShowAnswered P caps r Accepted parts answer after
+      (best : Option (List ℕ)) → r.best ≡ best → P.size ≤ length parts → (answer : Result Shown Refusal) (after : List ℕ) →
+      answer ≡ Ok (shown P caps best lowest) → after ≡ shown_parts P caps best parts →
+      show_reply answer ≡ reply_after accepted (shown_reply P caps r.best lowest) →
+      ShowAnswered P caps r accepted parts answer after
   unfolding shown shown_parts
   accepted_answered none b room answer after is bytes reply = none_answered b answer after is bytes reply
   accepted_answered (some best) b room answer after is bytes reply = found_answered best b room answer after is bytes reply
 
   -- what a showing answered
   pub show_tells :
-      r.caps ≡ caps → (v : Verdict) → (v ≡ Accepted → P.size ≤ length parts) → (answer : ShowAnswer) (after : List ℕ) →
+      r.caps ≡ caps → (v : Verdict) → (v ≡ accepted → P.size ≤ length parts) → (answer : Result Shown Refusal) (after : List ℕ) →
       answer ≡ shown_after v r P → after ≡ parts_after v r P parts → ShowAnswered P caps r v parts answer after
   unfolding shown_after parts_after
-  show_tells same Accepted room answer after is bytes =
+  show_tells same (Ok _) room answer after is bytes =
       accepted_answered
       r.best
       refl
       (room refl)
       answer
       after
-      (is ∙ ap (λ (c : Caps). shown P c r.best (floor (rules_of P c) r)) same)
+      (is ∙ ap (λ (c : Caps). Ok (shown P c r.best (floor (rules_of P c) r))) same)
       (bytes ∙ ap (λ (c : Caps). shown_parts P c r.best parts) same)
       (ap show_reply is
-      ∙ show-by_verdict Accepted r P
-      ∙ ap (λ (c : Caps). reply_after Accepted (shown_reply P c r.best (floor (rules_of P c) r))) same)
-  show_tells same (Refused word place) room answer after is bytes =
+      ∙ show-by_verdict accepted r P
+      ∙ ap (λ (c : Caps). reply_after accepted (shown_reply P c r.best (floor (rules_of P c) r))) same)
+  show_tells same (Err refusal) room answer after is bytes =
       refused_answered
-      word
-      place
+      refusal.word
+      refusal.place
       answer
       after
       is
       bytes
       (ap show_reply is
-      ∙ show-by_verdict (Refused word place) r P
-      ∙ ap (λ (c : Caps). reply_after (Refused word place) (shown_reply P c r.best (floor (rules_of P c) r))) same)
+      ∙ show-by_verdict (Err refusal) r P
+      ∙ ap (λ (c : Caps). reply_after (Err refusal) (shown_reply P c r.best (floor (rules_of P c) r))) same)

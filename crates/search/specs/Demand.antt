@@ -2,29 +2,30 @@
 -- Assumes nothing.
 use Rattle.std.specs.Prelude.{true, false, List, ◌↔◌, ◌≡◌, ℕ, ◌+◌, ◌*◌, ◌^◌, ◌-◌, ◌/◌, ◌≤◌, ◌<◌, length, get_or}
 use Rattle.std.proofs.Math.Option.{some, none}
+use Rattle.std.specs.Prelude.{Result, Ok, Err}
+use Rattle.model.specs.declared.Refusal.{Refusal}
 use Rattle.model.specs.declared.Word.{Word}
 use Rattle.model.specs.declared.Word.TheVariants.{NoSplit}
-use Rattle.model.specs.declared.Verdict.{Verdict}
-use Rattle.model.specs.declared.Verdict.TheVariants.{Accepted, Refused}
 use Rattle.model.specs.declared.Caps.{Caps}
 use Rattle.model.specs.declared.Search.{Search}
-use Rattle.model.specs.declared.RunAnswer.TheVariants as run-answer
+use Rattle.model.specs.declared.Ended.TheVariants as ends
 use Rattle.model.specs.declared.Ran.{Ran}
-use Rattle.model.specs.declared.ShowAnswer.{ShowAnswer}
-use Rattle.model.specs.declared.ShowAnswer.TheVariants as show-answer
+use Rattle.model.specs.declared.Shown.{Shown}
+use Rattle.model.specs.declared.Shown.TheVariants as showing
 use Rattle.model.specs.Limits.{tries_limit}
-use Rattle.model.specs.Refusal.{reply_after, verdict_reply}
+use Rattle.model.specs.Refusal as table
+use Rattle.model.specs.Refusal.{Verdict, accepted, refused, verdict_in, reply_after}
 use Rattle.model.specs.Pattern.{Pattern, pattern_of, line_total}
 use Rattle.model.specs.Split.{Split, Meets, caps_outside, part_number, volume}
 use Rattle.model.specs.Walk.{Record, rules_of, walked, floor}
 use Rattle.model.specs.State.{record_of, search_of, state_fine}
-use Rattle.model.specs.Calls.{list_verdict, open_verdict, open_call, ran_reply, ran_after, shown_from, shown_after, parts_after, run_reply, show_reply, shown_reply, open_replies}
+use Rattle.model.specs.Calls.{list_verdict, open_verdict, open_call, ran_reply, ran_after, shown_from, shown_after, parts_after, open_reply, run_reply, show_reply, shown_reply, open_replies}
 use Rattle.pattern.specs.Splits.{split_of}
 use Rattle.search.specs.History.{accepted_budget, Handed, run_of, show_of, parts_of, run_table, show_table, History, opened, ran, showed}
 
 -- within document 01's limits: no check placed before 12 refuses the opening
 pub record Within (m n nonzeros : ℕ) (list : List ℕ) (caps : Caps) : Type 0 where
-  pub listed : list_verdict m n nonzeros list ≡ Accepted
+  pub listed : list_verdict m n nonzeros list ≡ accepted
   pub capped : caps_outside caps ≡ false
 
 -- demand 3 at one point of a history: P is the pattern, r the walk's record after the accepted budgets, and s the search
@@ -78,15 +79,15 @@ Demand m n nonzeros list caps s total =
 -- what a run answered: `verdict` is the table's, read with the walk's record before it; `after` is the walk's record after its budget
 pub record RunAnswered (verdict : Verdict) (after : Record) (s : Search) (answer : Ran) : Type 0 where
   -- refused as the table says, and then the search is as it was
-  pub refused : (word : Word) (place : ℕ) → (answer.answer ≡ run-answer.Refused word place) ↔ (verdict ≡ Refused word place)
-  pub unchanged : (word : Word) (place : ℕ) → answer.answer ≡ run-answer.Refused word place → answer.search ≡ s
+  pub refused : (word : Word) (place : ℕ) → (answer.answer ≡ table.refused word place) ↔ (verdict ≡ table.refused word place)
+  pub unchanged : (word : Word) (place : ℕ) → answer.answer ≡ table.refused word place → answer.search ≡ s
   -- otherwise complete, or stopped, as the walk's record, with the looks of that record
   pub complete :
       (looks : ℕ) →
-      (answer.answer ≡ run-answer.Complete looks) ↔ ((verdict ≡ Accepted) × (after.complete ≡ true) × (after.looks ≡ looks))
+      (answer.answer ≡ Ok (ends.Complete looks)) ↔ ((verdict ≡ accepted) × (after.complete ≡ true) × (after.looks ≡ looks))
   pub stopped :
       (looks : ℕ) →
-      (answer.answer ≡ run-answer.Stopped looks) ↔ ((verdict ≡ Accepted) × (after.complete ≡ false) × (after.looks ≡ looks))
+      (answer.answer ≡ Ok (ends.Stopped looks)) ↔ ((verdict ≡ accepted) × (after.complete ≡ false) × (after.looks ≡ looks))
   -- what the run replies in numbers
   pub reply : run_reply answer.answer ≡ reply_after verdict (ran_reply after)
 
@@ -107,21 +108,21 @@ pub record SplitAnswered (P : Pattern) (caps : Caps) (r : Record) (parts : List 
   pub rest_stays : (i : ℕ) → P.size ≤ i → get_or after i 0 ≡ get_or parts i 0
 
 -- what a showing answered and left in its parts buffer: `verdict` is the table's, read with the walk's record r
-pub record ShowAnswered (P : Pattern) (caps : Caps) (r : Record) (verdict : Verdict) (parts : List ℕ) (answer : ShowAnswer) (after : List ℕ) : Type 0 where
+pub record ShowAnswered (P : Pattern) (caps : Caps) (r : Record) (verdict : Verdict) (parts : List ℕ) (answer : Result Shown Refusal) (after : List ℕ) : Type 0 where
   -- refused as the table says, and then every byte stays
-  pub refused : (word : Word) (place : ℕ) → (answer ≡ show-answer.Refused word place) ↔ (verdict ≡ Refused word place)
-  pub unchanged : (word : Word) (place : ℕ) → answer ≡ show-answer.Refused word place → after ≡ parts
+  pub refused : (word : Word) (place : ℕ) → (answer ≡ table.refused word place) ↔ (verdict ≡ table.refused word place)
+  pub unchanged : (word : Word) (place : ℕ) → answer ≡ table.refused word place → after ≡ parts
   -- otherwise "none yet", exactly when the walk has no best marking; then every byte stays, and the floor is given all the same
   pub none_yet :
       (low : ℕ) →
-      (answer ≡ show-answer.NoneYet low) ↔ ((verdict ≡ Accepted) × (r.best ≡ none) × (floor (rules_of P caps) r ≡ low))
-  pub none_stays : (low : ℕ) → answer ≡ show-answer.NoneYet low → after ≡ parts
-  pub none_floor : (low : ℕ) → answer ≡ show-answer.NoneYet low → (σ : Split) → Meets P caps σ → low ≤ volume P σ
+      (answer ≡ Ok (showing.NoneYet low)) ↔ ((verdict ≡ accepted) × (r.best ≡ none) × (floor (rules_of P caps) r ≡ low))
+  pub none_stays : (low : ℕ) → answer ≡ Ok (showing.NoneYet low) → after ≡ parts
+  pub none_floor : (low : ℕ) → answer ≡ Ok (showing.NoneYet low) → (σ : Split) → Meets P caps σ → low ≤ volume P σ
   -- or a split, with the volume and the floor that the walk shows
   pub found :
-      (best : List ℕ) → verdict ≡ Accepted → r.best ≡ some best →
-      answer ≡ show-answer.Split (volume P (shown_from P caps best)) (floor (rules_of P caps) r)
-  pub split : (shown low : ℕ) → answer ≡ show-answer.Split shown low → SplitAnswered P caps r parts shown low after
+      (best : List ℕ) → verdict ≡ accepted → r.best ≡ some best →
+      answer ≡ Ok (showing.Split (volume P (shown_from P caps best)) (floor (rules_of P caps) r))
+  pub split : (shown low : ℕ) → answer ≡ Ok (showing.Split shown low) → SplitAnswered P caps r parts shown low after
   -- what the showing replies in numbers
   pub reply : show_reply answer ≡ reply_after verdict (shown_reply P caps r.best (floor (rules_of P caps) r))
 
@@ -129,8 +130,8 @@ pub record ShowAnswered (P : Pattern) (caps : Caps) (r : Record) (verdict : Verd
 abbrev pub Throughout :
     {m n nonzeros : ℕ} {list : List ℕ} {caps : Caps} {s : Search} {total : ℕ} →
     History m n nonzeros list caps s total → Type 0
-Throughout {m} {n} {nonzeros} {list} {caps} (opened answer called accepted) =
-    Demand m n nonzeros list caps answer.search 0
+Throughout {m} {n} {nonzeros} {list} {caps} (opened search called) =
+    Demand m n nonzeros list caps search 0
 Throughout {m} {n} {nonzeros} {list} {caps} (ran {s} {total} h handed budget answer called) =
     let P = pattern_of m n nonzeros list in
     Throughout h
@@ -161,11 +162,11 @@ Splits P caps = (σ : Split) × Meets P caps σ
 -- refusal 12 exactly when, within document 01's limits, no split meets both caps
 pub record Demand3 (m n nonzeros : ℕ) (list : List ℕ) (caps : Caps) : Type 0 where
   pub throughout : {s : Search} {total : ℕ} (h : History m n nonzeros list caps s total) → Throughout h
-  pub opens : (open_call m n nonzeros list caps).verdict ≡ open_verdict m n nonzeros list caps
-  pub opens_reply : verdict_reply (open_call m n nonzeros list caps).verdict ≡ open_replies m n nonzeros list caps
+  pub opens : verdict_in (open_call m n nonzeros list caps) ≡ open_verdict m n nonzeros list caps
+  pub opens_reply : open_reply (open_call m n nonzeros list caps) ≡ open_replies m n nonzeros list caps
   pub accepts :
-      ((open_call m n nonzeros list caps).verdict ≡ Accepted)
+      (verdict_in (open_call m n nonzeros list caps) ≡ accepted)
       ↔ (Within m n nonzeros list caps × Splits (pattern_of m n nonzeros list) caps)
   pub refuses :
-      ((open_call m n nonzeros list caps).verdict ≡ Refused NoSplit 0)
+      (verdict_in (open_call m n nonzeros list caps) ≡ refused NoSplit 0)
       ↔ (Within m n nonzeros list caps × (Splits (pattern_of m n nonzeros list) caps → ⊥))

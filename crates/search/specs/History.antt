@@ -3,24 +3,22 @@
 -- search that the one before it left.
 -- Assumes nothing.
 use Rattle.std.specs.Prelude.{List, ◌≡◌, ℕ, ◌+◌, ◌*◌, ◌<◌, get_or}
-use Rattle.model.specs.declared.Verdict.{Verdict}
-use Rattle.model.specs.declared.Verdict.TheVariants.{Accepted}
+use Rattle.std.specs.Prelude.{Result, Ok, Err}
+use Rattle.model.specs.declared.Refusal.{Refusal}
+use Rattle.model.specs.Refusal.{Verdict, accepted, refused}
 use Rattle.model.specs.declared.Caps.{Caps}
 use Rattle.model.specs.declared.Search.{Search}
-use Rattle.model.specs.declared.Opened.{Opened}
-use Rattle.model.specs.declared.RunAnswer.{RunAnswer}
-use Rattle.model.specs.declared.RunAnswer.TheVariants as run-answer
+use Rattle.model.specs.declared.Ended.{Ended}
 use Rattle.model.specs.declared.Ran.{Ran}
-use Rattle.model.specs.declared.ShowAnswer.{ShowAnswer}
+use Rattle.model.specs.declared.Shown.{Shown}
 use Rattle.model.specs.Pattern.{entry_bytes}
 use Rattle.model.specs.Walk.{Record}
 use Rattle.model.specs.Calls.{list_verdict, run_verdict, show_verdict, open_call, run_call, show_call, show_parts}
 
 -- the budget of a run that was accepted; a run not accepted adds no tries
-unfoldable pub accepted_budget : RunAnswer → ℕ → ℕ
-accepted_budget (run-answer.Complete looks) budget = budget
-accepted_budget (run-answer.Stopped looks) budget = budget
-accepted_budget (run-answer.Refused word place) budget = 0
+unfoldable pub accepted_budget : Result Ended Refusal → ℕ → ℕ
+accepted_budget (Ok ended) budget = budget
+accepted_budget (Err refusal) budget = 0
 
 -- what a call is handed: sizes and a slice, whatever they are; but from the opening on nothing writes the pattern's list, so a slice that
 -- passes the list's checks under the pattern's own sizes begins with the pattern's bytes
@@ -30,7 +28,7 @@ pub record Handed (m n nonzeros : ℕ) (list : List ℕ) : Type 0 where
   pub size : ℕ
   pub slice : List ℕ
   pub same_bytes :
-      rows ≡ m → columns ≡ n → size ≡ nonzeros → list_verdict rows columns size slice ≡ Accepted →
+      rows ≡ m → columns ≡ n → size ≡ nonzeros → list_verdict rows columns size slice ≡ accepted →
       (i : ℕ) → i < entry_bytes * nonzeros → get_or slice i 0 ≡ get_or list i 0
 
 -- such as the pattern's sizes with any slice that begins with its bytes
@@ -44,7 +42,7 @@ handed_slice m n nonzeros list slice same =
 abbrev pub run_of : {m n nonzeros : ℕ} {list : List ℕ} → Search → Handed m n nonzeros list → ℕ → Ran
 run_of s handed budget = run_call s handed.rows handed.columns handed.size handed.slice budget
 
-abbrev pub show_of : {m n nonzeros : ℕ} {list : List ℕ} → Search → Handed m n nonzeros list → List ℕ → ShowAnswer
+abbrev pub show_of : {m n nonzeros : ℕ} {list : List ℕ} → Search → Handed m n nonzeros list → List ℕ → Result Shown Refusal
 show_of s handed parts = show_call s handed.rows handed.columns handed.size handed.slice parts
 
 abbrev pub parts_of : {m n nonzeros : ℕ} {list : List ℕ} → Search → Handed m n nonzeros list → List ℕ → List ℕ
@@ -60,8 +58,8 @@ show_table r handed parts = show_verdict r handed.rows handed.columns handed.siz
 -- history: an accepted opening, then runs and showings, with the search that they leave and the sum of the accepted budgets
 pub data History (m n nonzeros : ℕ) (list : List ℕ) (caps : Caps) : Search → ℕ → Type 0 where
   opened :
-      (answer : Opened) → answer ≡ open_call m n nonzeros list caps → answer.verdict ≡ Accepted →
-      History m n nonzeros list caps answer.search 0
+      (search : Search) → open_call m n nonzeros list caps ≡ Ok search →
+      History m n nonzeros list caps search 0
   ran :
       {s : Search} {total : ℕ} → History m n nonzeros list caps s total →
       (handed : Handed m n nonzeros list) (budget : ℕ) (answer : Ran) →
@@ -69,7 +67,7 @@ pub data History (m n nonzeros : ℕ) (list : List ℕ) (caps : Caps) : Search �
       History m n nonzeros list caps answer.search (total + accepted_budget answer.answer budget)
   showed :
       {s : Search} {total : ℕ} → History m n nonzeros list caps s total →
-      (handed : Handed m n nonzeros list) (parts after : List ℕ) (answer : ShowAnswer) →
+      (handed : Handed m n nonzeros list) (parts after : List ℕ) (answer : Result Shown Refusal) →
       answer ≡ show_of s handed parts →
       after ≡ parts_of s handed parts →
       History m n nonzeros list caps s total

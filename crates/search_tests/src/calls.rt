@@ -1,55 +1,51 @@
 // What openings, runs and showings answer.
-use crate::current::{Current, fresh_at, go_to, ran};
+use crate::current::Current;
 use crate::saying::{say_same, say_sizes, say_verdict};
 use crate::shown::shows;
 use model::limits::PART_ROOM;
+use std::io;
 use testing::Kind;
-use testing::cases::field_at;
-use testing::saying::{say, say_field, say_run};
+use testing::cases::Cases;
+use testing::saying::{say_field, say_run};
 
 // What an opening answers to a pattern.
-pub(crate) fn open(cases: &[u8], current: Current) -> Current {
-    let opened = fresh_at(cases, current.at);
-    say_sizes(b"open ", opened);
-    let verdict = opened.verdict;
-    say_verdict(verdict);
-    say(b"\n");
-    go_to(current, opened.at)
+pub(crate) fn open(rt: &impl Print, cases: &mut Cases<'_>) -> io::Result<()> {
+    let opened = Current::fresh(cases);
+    say_sizes(rt, "open", &opened)?;
+    say_verdict(rt, opened.verdict)?;
+    println!(rt)
 }
 
 // What a run of one try and a showing answer.
-pub(crate) fn say_calls(words: &[u8], current: Current, room: usize) {
-    let ran = ran(current, 1);
-    say(words);
-    let answer = ran.answer;
-    say_run(answer);
-    say_same(current.search, ran.search);
-    say(b", show");
-    shows(current, [9u8; PART_ROOM], room);
+pub(crate) fn say_calls(
+    rt: &impl Print,
+    words: &str,
+    current: &Current,
+    room: usize,
+) -> io::Result<()> {
+    let ran = current.ran(1);
+    print!(rt; "{words}")?;
+    say_run(rt, ran.answer)?;
+    say_same(rt, &current.search, &ran.search)?;
+    print!(rt; ", show")?;
+    shows(rt, current, &mut [9u8; PART_ROOM], room)
 }
 
 // What an opening answers to the list of a pattern, and what a run and a showing of the search do.
-pub(crate) fn list(cases: &[u8], current: Current) -> Current {
-    let mut asked = fresh_at(cases, say_field(cases, current.at));
-    say(b": open");
-    let verdict = asked.verdict;
-    say_verdict(verdict);
-    let search = current.search;
-    asked.search = search;
-    say_calls(b", run", asked, 4);
-    go_to(current, asked.at)
+pub(crate) fn list(rt: &impl Print, cases: &mut Cases<'_>, current: &Current) -> io::Result<()> {
+    say_field(rt, cases)?;
+    let mut asked = Current::fresh(cases);
+    print!(rt; ": open")?;
+    say_verdict(rt, asked.verdict)?;
+    asked.search = current.search;
+    say_calls(rt, ", run", &asked, 4)
 }
 
 // What a showing answers with the parts that are given.
-pub(crate) fn into(cases: &[u8], current: Current) -> Current {
+pub(crate) fn into(rt: &impl Print, cases: &mut Cases<'_>, current: &Current) -> io::Result<()> {
     let mut parts = [9u8; PART_ROOM];
-    let room = field_at(
-        cases,
-        say_field(cases, current.at),
-        Kind::Numbers,
-        &mut parts,
-    );
-    say(b":");
-    shows(current, parts, room.value as usize);
-    go_to(current, room.next)
+    say_field(rt, cases)?;
+    let room = cases.field(Kind::Numbers, &mut parts);
+    print!(rt; ":")?;
+    shows(rt, current, &mut parts, room)
 }

@@ -10,56 +10,45 @@ mod saying;
 mod shown;
 mod walks;
 
-use crate::current::{Current, fresh_at, go_to};
-use pattern::reading::byte_at;
-use testing::Kind;
-use testing::cases::field_at;
-use testing::saying::say;
+use crate::current::Current;
+use input::read_full;
+use std::io;
+use testing::cases::{Cases, each_case};
 
-// A case without fields, by the first letter of its kind. An empty line is printed.
-fn short_case(letter: u8, current: Current) -> Current {
-    match letter {
-        b's' => shown::say_search(current),
-        b'm' => pieces::misuse(current),
-        b'\n' => say(b"\n"),
-        _ => (),
+// Answers a case by the first letter of its kind. An empty line is printed.
+fn answer(
+    rt: &impl Print,
+    kind: u8,
+    cases: &mut Cases<'_>,
+    current: &mut Current,
+) -> io::Result<()> {
+    match kind {
+        b'a' => current.go_on(cases),
+        b'c' => percent::cap(rt, cases)?,
+        b'd' => damaged::damaged(rt, cases, current)?,
+        b'e' => damaged::equal(rt, cases, current)?,
+        b'f' => *current = Current::fresh(cases),
+        b'i' => calls::into(rt, cases, current)?,
+        b'l' => calls::list(rt, cases, current)?,
+        b'm' => pieces::misuse(rt, current)?,
+        b'o' => calls::open(rt, cases)?,
+        b'p' => damaged::put(cases, current),
+        b'r' => pieces::run(rt, cases, current)?,
+        b's' => shown::say_search(rt, current)?,
+        b't' => saying::text(rt, cases)?,
+        b'w' => walks::walk(rt, cases)?,
+        b'\n' => println!(rt)?,
+        _ => {}
     }
-    current
-}
-
-// Answers the case at a place, by the first letter of its kind.
-fn case_at(cases: &[u8], current: Current) -> Current {
-    let letter = byte_at(cases, current.at);
-    let kind = field_at(cases, current.at, Kind::Text, &mut []);
-    let case = go_to(current, kind.next);
-    match letter {
-        b'a' => current::after(cases, case),
-        b'c' => percent::cap(cases, case),
-        b'd' => damaged::damaged(cases, case),
-        b'e' => damaged::equal(cases, case),
-        b'f' => fresh_at(cases, kind.next),
-        b'i' => calls::into(cases, case),
-        b'l' => calls::list(cases, case),
-        b'o' => calls::open(cases, case),
-        b'p' => damaged::put(cases, case),
-        b'r' => pieces::run(cases, case),
-        b't' => saying::text(cases, case),
-        b'w' => walks::walk(cases, case),
-        _ => short_case(letter, case),
-    }
+    Ok(())
 }
 
 // Reads the cases and answers each of them in turn.
-fn main() {
-    let mut cases = [0u8; 65536];
-    let len = io::read_full(0, &mut cases);
-    let mut current = go_to(fresh_at(&cases, 0), 0);
-    let mut at: usize = 0;
-    while at < len {
-        current = case_at(&cases, current);
-        if current.at <= at {
-            return;
-        }
-        at = current.at;
-    }
+fn main(rt: HostRuntime) -> io::Result<()> {
+    let mut page = [0u8; 65536];
+    let len = read_full(&mut rt.reader(), &mut page)?;
+    let mut current = Current::fresh(&mut Cases { text: &page, at: 0 });
+    each_case(&page, len, |kind, cases| {
+        answer(&rt, kind, cases, &mut current)
+    })
 }

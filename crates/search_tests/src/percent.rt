@@ -1,29 +1,23 @@
 // Caps from percentages.
-use crate::current::{Current, go_to};
-use model::CapAnswer;
+use model::{Capped, Refusal};
 use pattern::cap::cap_from_percent;
-use testing::cases::number_at;
-use testing::saying::{say, say_number, say_refused};
+use std::io;
+use testing::cases::Cases;
+use testing::saying::say_refused;
 
 // A cap and its rest, or a refusal.
-fn say_cap(answer: CapAnswer) {
+fn say_cap(rt: &impl Print, answer: Result<Capped, Refusal>) -> io::Result<()> {
     match answer {
-        CapAnswer::Capped { cap, rest } => {
-            say_number(b" ", cap);
-            say_number(b" rest ", rest);
-        }
-        CapAnswer::Refused(word, place) => say_refused(word, place),
+        Ok(Capped { cap, rest }) => print!(rt; " {cap} rest {rest}"),
+        Err(refusal) => say_refused(rt, refusal),
     }
 }
 
 // The cap from a percentage.
-pub(crate) fn cap(cases: &[u8], current: Current) -> Current {
-    let nonzeros = number_at(cases, current.at);
-    let percent = number_at(cases, nonzeros.next);
-    say_number(b"cap from ", nonzeros.value);
-    say_number(b" at ", percent.value);
-    say(b" percent");
-    say_cap(cap_from_percent(nonzeros.value, percent.value));
-    say(b"\n");
-    go_to(current, percent.next)
+pub(crate) fn cap(rt: &impl Print, cases: &mut Cases<'_>) -> io::Result<()> {
+    let nonzeros = cases.number();
+    let percent = cases.number();
+    print!(rt; "cap from {nonzeros} at {percent} percent")?;
+    say_cap(rt, cap_from_percent(nonzeros, percent))?;
+    println!(rt)
 }

@@ -1,86 +1,81 @@
 // What the program prints of cases, marks, answers and searches.
-use crate::current::{Current, go_to};
-use model::{Search, Verdict};
+use crate::current::Current;
+use model::{Refusal, Search};
 use pattern::reading::byte_at;
-use testing::comparing::same_search;
-use testing::saying::{say, say_field, say_number, say_refused, say_which};
+use std::io;
+use testing::cases::Cases;
+use testing::saying::{say_field, say_refused};
 use trail::Trail;
 
 // The words of a case, on a line of their own.
-pub(crate) fn text(cases: &[u8], current: Current) -> Current {
-    let next = say_field(cases, current.at);
-    say(b"\n");
-    go_to(current, next)
+pub(crate) fn text(rt: &impl Print, cases: &mut Cases<'_>) -> io::Result<()> {
+    say_field(rt, cases)?;
+    println!(rt)
 }
 
 // Words, and the numbers of a pattern.
-pub(crate) fn say_sizes(words: &[u8], current: Current) {
-    say_number(words, current.m);
-    say_number(b" ", current.n);
-    say_number(b" ", current.nonzeros);
-    say_number(b" caps ", current.cap0);
-    say_number(b" ", current.cap1);
-}
-
-// One letter.
-fn say_letter(letter: u8) {
-    say(&[letter]);
+pub(crate) fn say_sizes(rt: &impl Print, words: &str, current: &Current) -> io::Result<()> {
+    let pattern = &current.pattern;
+    let caps = current.caps;
+    print!(rt; "{words} {} {} {}", pattern.m, pattern.n, pattern.nonzeros)?;
+    print!(rt; " caps {} {}", caps.cap0, caps.cap1)
 }
 
 // The letter of a mark or a part; 9 for a byte that a call has not written.
-fn letter_of(mark: u8) -> u8 {
+fn letter_of(mark: u8) -> char {
     match mark {
-        0 => b'0',
-        1 => b'1',
-        2 => b'c',
-        9 => b'9',
-        _ => b'?',
+        0 => '0',
+        1 => '1',
+        2 => 'c',
+        9 => '9',
+        _ => '?',
     }
 }
 
 // The first marks or parts of some bytes.
-pub(crate) fn say_marks(bytes: &[u8], len: usize) {
-    let mut i: usize = 0;
-    while i < len {
-        say_letter(letter_of(byte_at(bytes, i)));
-        i += 1;
+pub(crate) fn say_marks(rt: &impl Print, bytes: &[u8], len: usize) -> io::Result<()> {
+    for i in 0..len {
+        rt.print(letter_of(byte_at(bytes, i)))?;
     }
+    Ok(())
 }
 
-// The marks of a marking, a full stop where it has none, or a dash where it is not there.
-fn say_marking(found: bool, trail: Trail) {
-    let marks = trail.marks;
-    let len = trail.len;
-    if !found {
-        return say_letter(b'-');
+// The marks of a marking, or a full stop where it has none.
+fn say_marking(rt: &impl Print, trail: &Trail) -> io::Result<()> {
+    if trail.len == 0 {
+        return print!(rt; ".");
     }
-    if len == 0 {
-        return say_letter(b'.');
+    say_marks(rt, &trail.marks, trail.len)
+}
+
+// The best marking, or a dash where there is none.
+fn say_best(rt: &impl Print, search: &Search) -> io::Result<()> {
+    if !search.found {
+        return print!(rt; "-");
     }
-    say_marks(&marks, len);
+    say_marking(rt, &search.best)
 }
 
 // What an opening answers.
-pub(crate) fn say_verdict(verdict: Verdict) {
+pub(crate) fn say_verdict(rt: &impl Print, verdict: Result<(), Refusal>) -> io::Result<()> {
     match verdict {
-        Verdict::Accepted => say(b" accepted"),
-        Verdict::Refused(word, place) => say_refused(word, place),
+        Ok(()) => print!(rt; " accepted"),
+        Err(refusal) => say_refused(rt, refusal),
     }
 }
 
 // A search's record.
-pub(crate) fn say_record(search: Search) {
-    say_number(b"  tries ", search.tries);
-    say_number(b" looks ", search.looks);
-    say_number(b" best ", search.best_count);
-    say(b" bestmarking ");
-    say_marking(search.found, search.best);
-    say_which(search.complete, b" complete trail ", b" open trail ");
-    say_marking(true, search.trail);
+pub(crate) fn say_record(rt: &impl Print, search: &Search) -> io::Result<()> {
+    let (tries, looks, best) = (search.tries, search.looks, search.best_count);
+    print!(rt; "  tries {tries} looks {looks} best {best} bestmarking ")?;
+    say_best(rt, search)?;
+    let state = if search.complete { "complete" } else { "open" };
+    print!(rt; " {state} trail ")?;
+    say_marking(rt, &search.trail)
 }
 
 // Says whether a search is as it was.
-pub(crate) fn say_same(before: Search, after: Search) {
-    let same = same_search(before, after);
-    say_which(same, b" unchanged", b" changed");
+pub(crate) fn say_same(rt: &impl Print, before: &Search, after: &Search) -> io::Result<()> {
+    let same = before == after;
+    print!(rt; "{}", if same { " unchanged" } else { " changed" })
 }

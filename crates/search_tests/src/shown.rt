@@ -1,61 +1,66 @@
 // What the program prints of showings.
 use crate::current::Current;
 use crate::saying::{say_marks, say_record};
-use model::ShowAnswer;
 use model::limits::PART_ROOM;
-use testing::laying::first;
-use testing::saying::{say, say_number, say_refused};
+use model::{Refusal, Shown};
+use std::io;
+use testing::saying::say_refused;
 
 // What a showing answers, with the first bytes of its parts where it gives a split.
-fn say_show(answer: ShowAnswer, parts: [u8; PART_ROOM], len: usize) {
+fn say_show(
+    rt: &impl Print,
+    answer: Result<Shown, Refusal>,
+    parts: &[u8],
+    len: usize,
+) -> io::Result<()> {
     match answer {
-        ShowAnswer::Split { volume, floor } => {
-            say_number(b" floor ", floor);
-            say_number(b" volume ", volume);
-            say(b" split ");
-            say_marks(&parts, len);
+        Ok(Shown::Split { volume, floor }) => {
+            print!(rt; " floor {floor} volume {volume} split ")?;
+            say_marks(rt, parts, len)
         }
-        ShowAnswer::NoneYet { floor } => {
-            say_number(b" floor ", floor);
-            say(b" none yet");
-        }
-        ShowAnswer::Refused(word, place) => say_refused(word, place),
+        Ok(Shown::NoneYet { floor }) => print!(rt; " floor {floor} none yet"),
+        Err(refusal) => say_refused(rt, refusal),
     }
 }
 
-// What a showing answers that is lent so many of the parts, and the parts after it.
+// What a showing answers that is lent so many of the parts.
 pub(crate) fn say_shown(
-    current: Current,
-    mut parts: [u8; PART_ROOM],
+    rt: &impl Print,
+    current: &Current,
+    parts: &mut [u8],
     room: usize,
-) -> [u8; PART_ROOM] {
-    let list = current.list;
-    let search = current.search;
-    if room <= parts.len() {
-        let answer = search::show(
-            search,
-            current.m,
-            current.n,
-            current.nonzeros,
-            first(&list, current.len),
-            &mut parts[0..room],
-        );
-        say_show(answer, parts, current.nonzeros as usize);
+) -> io::Result<()> {
+    let pattern = &current.pattern;
+    if room > parts.len() {
+        return Ok(());
     }
-    parts
+    let answer = search::show(
+        current.search,
+        pattern.m,
+        pattern.n,
+        pattern.nonzeros,
+        pattern.list(),
+        &mut parts[..room],
+    );
+    say_show(rt, answer, parts, pattern.nonzeros as usize)
 }
 
 // What a showing answers, and the parts after it.
-pub(crate) fn shows(current: Current, parts: [u8; PART_ROOM], room: usize) {
-    let after = say_shown(current, parts, room);
-    say(b" parts ");
-    say_marks(&after, room);
-    say(b"\n");
+pub(crate) fn shows(
+    rt: &impl Print,
+    current: &Current,
+    parts: &mut [u8],
+    room: usize,
+) -> io::Result<()> {
+    say_shown(rt, current, parts, room)?;
+    print!(rt; " parts ")?;
+    say_marks(rt, parts, room)?;
+    println!(rt)
 }
 
 // A search's record and what is shown of it, on a line of its own.
-pub(crate) fn say_search(current: Current) {
-    say_record(current.search);
-    say_shown(current, [9u8; PART_ROOM], PART_ROOM);
-    say(b"\n");
+pub(crate) fn say_search(rt: &impl Print, current: &Current) -> io::Result<()> {
+    say_record(rt, &current.search)?;
+    say_shown(rt, current, &mut [9u8; PART_ROOM], PART_ROOM)?;
+    println!(rt)
 }

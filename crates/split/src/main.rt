@@ -2,13 +2,13 @@
 #![tactic(auto)]
 
 use answering::printing::{no_input, printed};
+use input::read_full;
+use std::io;
 
 // Reads, answers and prints.
-fn main() {
-    let mut input = no_input();
-    let count = io::read_full(0, &mut input);
-    let answer = printed(input, count);
-    let bytes = answer.bytes;
-    let len = answer.len;
-    io::write_all(1, &bytes[0..len]);
+fn main(rt: HostRuntime) -> io::Result<()> {
+    let mut page = no_input();
+    let count = read_full(&mut rt.reader(), &mut page)?;
+    let answer = printed(page, count);
+    rt.write_all(&answer.bytes[..answer.len])
 }

@@ -12,7 +12,7 @@ use lib.ListN.{length, get_or}
 use borrow.Author.Tests.{leb-true, eqb-true}
 use Rattle.counting.proofs.Joined.{clash, and_left, and_right, never}
 use Rattle.trail.specs.Trail.{mark_room}
-use Rattle.model.specs.declared.Verdict.TheVariants.{Accepted}
+use Rattle.model.specs.Refusal.{accepted}
 use Rattle.model.specs.declared.Search.{Search}
 use Rattle.model.specs.Limits.{line_room, line_limit, tries_limit}
 use Rattle.model.specs.Pattern.{pattern_of, line_count, line_total}
@@ -116,18 +116,18 @@ fits_back k r small f =
     record_back r (omega (arith, f.trail_fits)) (λ τ e. omega (arith, f.best_fits τ e))
 
 -- the tables of an accepted list are at hand
-accepted_few : (m n nonzeros : ℕ) (list : List ℕ) → list_verdict m n nonzeros list ≡ Accepted → line_total (pattern_of m n nonzeros list) ≤ mark_room
+accepted_few : (m n nonzeros : ℕ) (list : List ℕ) → list_verdict m n nonzeros list ≡ accepted → line_total (pattern_of m n nonzeros list) ≤ mark_room
 unfolding pattern_of
 accepted_few m n nonzeros list h =
     few_lines (pattern_of m n nonzeros list) (list_accepted m n nonzeros list h).rows_to (list_accepted m n nonzeros list h).columns_to
 
 pub accepted_ready :
     (m n nonzeros : ℕ) (list counts places starts : List ℕ) (k : ℕ) →
-    list_verdict m n nonzeros list ≡ Accepted →
+    list_verdict m n nonzeros list ≡ accepted →
     ((l : ℕ) → l < line_room → get_or counts l 0 ≡ line_count (pattern_of m n nonzeros list) l) →
     (m + n ≤ line_room → ((l : ℕ) → l < line_room → get_or counts l 0 ≡ line_count (pattern_of m n nonzeros list) l) →
     ((l : ℕ) → line_count (pattern_of m n nonzeros list) l ≤ line_limit) → Placed (pattern_of m n nonzeros list) places) →
-    ((m n i : ℕ) → i ≤ side_room → get_or starts i 0 ≡ row_start (pattern_of m n nonzeros list) i) →
+    ((i : ℕ) → i ≤ side_room → get_or starts i 0 ≡ row_start (pattern_of m n nonzeros list) i) →
     k ≡ total_by counts (within (m + n)) →
     Ready m n nonzeros list places starts k
 accepted_ready m n nonzeros list counts places starts k h counted placed started total =

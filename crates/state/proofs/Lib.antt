@@ -3,7 +3,6 @@ pub mod Held
 pub mod Cleared
 pub mod Totals
 pub mod Legals
-pub mod States
 pub mod StateLaws
 pub mod ByLine
 pub mod Validities

@@ -9,7 +9,7 @@ use lib.Dec.{eqb, leb}
 use lib.ListN.{length, get_or}
 use borrow.Author.Tests.{eq-eqb, ne_eqb, eqb-true, leb-true, not-true}
 use Rattle.counting.specs.Tests.{◌and◌, pick}
-use Rattle.counting.proofs.Joined.{no_way, clash, and_left, and_right, pick_true, pick-false, and-turned, and_all}
+use Rattle.counting.proofs.Joined.{no_way, clash, and_left, and_right, pick_true, pick-false, and_fails_left, and_fails_right, and-turned, and_all}
 use Rattle.trail.specs.declared.Trail.{Trail}
 use Rattle.trail.specs.Trail.{mark_room, mark_or}
 use Rattle.model.specs.declared.Search.{Search}
@@ -177,7 +177,13 @@ state_is R m n nonzeros s trail best a b =
     and a i
     and b i
 
--- a best marking of another length than k is not full
+-- a best marking that is not valid is not full
+pub never_full : (best : Trail) (k : ℕ) (valid : Bool) (count : ℕ) → valid ≡ false → false ≡ full_by best k valid count
+unfolding full_by
+never_full best k valid count h =
+    sym (and_fails_left _ (and_fails_left _ (and_fails_right (eqb best.len k) h)))
+
+-- nor is one of another length than k
 pub other_length : (best : Trail) (k : ℕ) (valid : Bool) (count : ℕ) → (best.len ≡ k → ⊥) → false ≡ full_by best k valid count
 unfolding full_by ◌and◌
 other_length best k valid count h = simp (ne_eqb _ _ h)

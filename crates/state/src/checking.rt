@@ -2,58 +2,39 @@
 ghost use Rattle.std.specs.Prelude.{List, ◌≡◌, ℕ, ◌+◌, ◌≤◌};
 ghost use Rattle.trail.specs.Trail.{mark_room};
 ghost use Rattle.model.specs.Limits.{line_room, line_limit, nonzero_limit};
-ghost use Rattle.model.specs.Pattern.{Inside, pattern_of};
+ghost use Rattle.model.specs.Pattern.{Inside};
 ghost use Rattle.model.specs.Walk.{rules_of};
 ghost use Rattle.model.specs.Marking.{marking, valid};
 ghost use Rattle.model.specs.State.{marks_in, caps_in, record_of, state_fine};
+ghost use Rattle.pattern.specs.Matrix.{pattern_in};
 ghost use Rattle.bound.specs.Evaluated.{Placed};
-ghost use Rattle.state.specs.Ready.{Ready};
+ghost use Rattle.state.specs.Ready.{ReadyIn};
 
 use crate::fine::{best_fine, numbers_fine, trail_fine};
 use crate::holding::cleared;
-use counting::joining::both_of;
 use marking::marks::marks_by_line;
-use model::limits::{LINE_LIMIT, LINE_ROOM, NONZERO_LIMIT, SIDE_ENDS};
+use model::limits::{LINE_LIMIT, LINE_ROOM, NONZERO_LIMIT};
 use model::{Caps, Search};
 use pattern::cap::unequal_caps;
-use pattern::reading::wide16;
-use pattern::room::lines_of;
+use pattern::matrix::Matrix;
 use trail::Trail;
 use weighing::taking::{is_valid, taken_of};
 
 // The marking that a trail holds is valid.
-fn valid_of(
-    trail: Trail,
-    m: u16,
-    n: u16,
-    nonzeros: u16,
-    list: &[u8],
-    caps: Caps,
-    places: &[u16; LINE_ROOM],
-) -> bool
-    ensures { m + n ≤ line_room → Inside (pattern_of m n nonzeros list.now) →
-        Placed (pattern_of m n nonzeros list.now) places.now → trail.len ≤ mark_room →
-        result ≡ valid (pattern_of m n nonzeros list.now) caps (marking (pattern_of m n nonzeros list.now) (marks_in trail)) }
+fn valid_of(trail: Trail, matrix: &Matrix<'_>, caps: Caps, places: &[u16; LINE_ROOM]) -> bool
+    ensures { matrix.now.m + matrix.now.n ≤ line_room → Inside (pattern_in matrix.now) →
+        Placed (pattern_in matrix.now) places.now → trail.len ≤ mark_room →
+        result ≡ valid (pattern_in matrix.now) caps (marking (pattern_in matrix.now) (marks_in trail)) }
 {
-    let kept = cleared(trail);
-    let marks = kept.marks;
-    let by_line = marks_by_line(lines_of(m, n), places, &marks, kept.len);
-    is_valid(taken_of(m, nonzeros, list, &by_line), caps)
+    let by_line = marks_by_line(matrix.lines(), places, &cleared(trail));
+    is_valid(taken_of(matrix, &by_line), caps)
 }
 
 // The state check of refusal 14, with the tables of an accepted list, where m and N are in range.
-fn ranged_fine(
-    search: Search,
-    m: u16,
-    n: u16,
-    nonzeros: u16,
-    list: &[u8],
-    places: &[u16; LINE_ROOM],
-    k: u16,
-) -> bool
-    requires { (m ≤ line_limit) × (nonzeros ≤ nonzero_limit) }
-    ensures { (starts : List ℕ) → Ready m n nonzeros list.now places.now starts k →
-        result ≡ state_fine (rules_of (pattern_of m n nonzeros list.now) (caps_in search)) m n nonzeros (record_of search) }
+fn ranged_fine(search: Search, matrix: &Matrix<'_>, places: &[u16; LINE_ROOM], k: u16) -> bool
+    requires { (matrix.now.m ≤ line_limit) × (matrix.now.nonzeros ≤ nonzero_limit) }
+    ensures { (starts : List ℕ) → ReadyIn matrix.now places.now starts k →
+        result ≡ state_fine (rules_of (pattern_in matrix.now) (caps_in search)) matrix.now.m matrix.now.n matrix.now.nonzeros (record_of search) }
 {
     let caps = Caps {
         cap0: search.cap0,
@@ -61,39 +42,27 @@ fn ranged_fine(
     };
     let whole = search.trail;
     let beginning = whole.drop();
-    let begins = valid_of(beginning, m, n, nonzeros, list, caps, places);
-    let full = valid_of(search.best, m, n, nonzeros, list, caps, places);
-    let numbers = numbers_fine(search, m as u64, n as u64, nonzeros as u64);
+    let begins = valid_of(beginning, matrix, caps, places);
+    let full = valid_of(search.best, matrix, caps, places);
+    let numbers = numbers_fine(search, matrix);
     let trail = trail_fine(
         whole,
         search.complete,
-        wide16(k),
+        usize::from(k),
         begins,
         unequal_caps(caps),
     );
     let best = best_fine(search, k, full);
-    both_of(both_of(numbers, trail), best)
+    let sound = numbers && trail;
+    sound && best
 }
 
-// The state check of refusal 14, with the tables of an accepted list.
-pub fn state_fine(
-    search: Search,
-    m: u16,
-    n: u16,
-    nonzeros: u16,
-    list: &[u8],
-    places: &[u16; LINE_ROOM],
-    starts: &[u16; SIDE_ENDS],
-    k: u16,
-) -> bool
-    ensures { Ready m n nonzeros list.now places.now starts.now k →
-        result ≡ state_fine (rules_of (pattern_of m n nonzeros list.now) (caps_in search)) m n nonzeros (record_of search) }
+/// The state check of refusal 14, with the tables of an accepted list.
+pub fn state_fine(search: Search, matrix: &Matrix<'_>, places: &[u16; LINE_ROOM], k: u16) -> bool
+    ensures { (starts : List ℕ) → ReadyIn matrix.now places.now starts k →
+        result ≡ state_fine (rules_of (pattern_in matrix.now) (caps_in search)) matrix.now.m matrix.now.n matrix.now.nonzeros (record_of search) }
 {
-    if LINE_LIMIT < m as u64 {
-        return false;
-    }
-    if NONZERO_LIMIT < nonzeros as u64 {
-        return false;
-    }
-    ranged_fine(search, m, n, nonzeros, list, places, k)
+    u64::from(matrix.m) <= LINE_LIMIT
+        && u64::from(matrix.nonzeros) <= NONZERO_LIMIT
+        && ranged_fine(search, matrix, places, k)
 }

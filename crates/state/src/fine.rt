@@ -8,6 +8,7 @@ use crate::legal::{are_marks, cuts_before, ones_allowed};
 use model::limits::TRIES_LIMIT;
 use model::{Caps, Search};
 use pattern::cap::caps_outside;
+use pattern::matrix::Matrix;
 use trail::Trail;
 
 // The trail is empty if the search is complete; else it has 1 to k legal marks, and its longest proper beginning is valid.
@@ -19,36 +20,23 @@ pub(crate) fn trail_fine(trail: Trail, complete: bool, k: usize, valid: bool, fi
     if complete {
         return len == 0;
     }
-    if len == 0 {
+    if len == 0 || k < len || !valid {
         return false;
     }
-    if k < len {
-        return false;
-    }
-    if valid {
-        if are_marks(&marks, len) {
-            return ones_allowed(&marks, len, first);
-        }
-    }
-    false
+    are_marks(&marks, len) && ones_allowed(&marks, len, first)
 }
 
 // A best marking is full, valid and legal, and has best count cut lines.
-#[tactic(auto, using(crate::proofs::StateLaws::other_length))]
+#[tactic(auto, using(crate::proofs::StateLaws::other_length, crate::proofs::StateLaws::never_full))]
 fn full_fine(best: Trail, k: usize, valid: bool, count: u64) -> bool
     ensures { result ≡ full_by best k valid count }
 {
     let len = best.len;
     let marks = best.marks;
-    if len != k {
+    if len != k || !valid {
         return false;
     }
-    if valid {
-        if are_marks(&marks, len) {
-            return cuts_before(&marks, len) == count;
-        }
-    }
-    false
+    are_marks(&marks, len) && cuts_before(&marks, len) == count
 }
 
 // A best marking as it should be; without one the best count is k + 1 and the search not complete.
@@ -57,12 +45,10 @@ pub(crate) fn best_fine(search: Search, k: u16, valid: bool) -> bool
 {
     let count = search.best_count;
     if search.found {
-        return full_fine(search.best, k as usize, valid, count);
+        full_fine(search.best, usize::from(k), valid, count)
+    } else {
+        !search.complete && count == u64::from(k) + 1
     }
-    if search.complete {
-        return false;
-    }
-    count == (k as u64) + 1
 }
 
 // Tries are in range, and looks are at most tries × m × N; the product fits where m and N are in range.
@@ -70,40 +56,23 @@ fn counts_fine(tries: u64, looks: u64, m: u64, nonzeros: u64) -> bool
     requires { (m ≤ line_limit) × (nonzeros ≤ nonzero_limit) }
     ensures { result ≡ counts_fine tries looks m nonzeros }
 {
-    if TRIES_LIMIT < tries {
-        return false;
-    }
-    looks <= tries * m * nonzeros
+    tries <= TRIES_LIMIT && looks <= tries * m * nonzeros
 }
 
 // The numbers of a state: m, n and N are the list's, N is at most cap 0 + cap 1, and caps, tries and looks are in range.
-pub(crate) fn numbers_fine(search: Search, m: u64, n: u64, nonzeros: u64) -> bool
-    requires { (m ≤ line_limit) × (nonzeros ≤ nonzero_limit) }
-    ensures { result ≡ numbers_by search m n nonzeros }
+pub(crate) fn numbers_fine(search: Search, matrix: &Matrix<'_>) -> bool
+    requires { (matrix.now.m ≤ line_limit) × (matrix.now.nonzeros ≤ nonzero_limit) }
+    ensures { result ≡ numbers_by search matrix.now.m matrix.now.n matrix.now.nonzeros }
 {
-    let rows = search.m;
-    let columns = search.n;
-    let size = search.nonzeros;
+    let m = u64::from(matrix.m);
+    let nonzeros = u64::from(matrix.nonzeros);
     let caps = Caps {
         cap0: search.cap0,
         cap1: search.cap1,
     };
-    let tries = search.tries;
-    let looks = search.looks;
-    if rows != m {
+    let n = u64::from(matrix.n);
+    if search.m != m || search.n != n || search.nonzeros != nonzeros || caps_outside(caps) {
         return false;
     }
-    if columns != n {
-        return false;
-    }
-    if size != nonzeros {
-        return false;
-    }
-    if caps_outside(caps) {
-        return false;
-    }
-    if caps.cap0 + caps.cap1 < nonzeros {
-        return false;
-    }
-    counts_fine(tries, looks, m, nonzeros)
+    nonzeros <= caps.cap0 + caps.cap1 && counts_fine(search.tries, search.looks, m, nonzeros)
 }

@@ -1,12 +1,10 @@
 // The record of a search in its struct: fresh, and with 0 in every mark past a marking's length.
 ghost use Rattle.std.specs.Prelude.{◌≡◌, [], ◌∷◌, suc};
 ghost use Rattle.model.specs.Walk.{fresh};
-ghost use Rattle.model.specs.State.{array_of, trail_of, search_of};
-ghost use Rattle.model.specs.Calls.{complete_number, no_record};
+ghost use Rattle.model.specs.State.{array_of, trail_of, search_of, no_record};
 ghost use Rattle.state.specs.Holding.{cleared_to, best_to, normal_of};
 
 use model::{Caps, Search};
-use pattern::reading::long16;
 use trail::{MARK_ROOM, Trail};
 
 // No marks.
@@ -20,11 +18,13 @@ fn no_marks() -> [u8; MARK_ROOM]
 fn no_trail() -> Trail
     ensures { result ≡ trail_of [] }
 {
-    let marks = no_marks();
-    Trail { marks, len: 0 }
+    Trail {
+        marks: no_marks(),
+        len: 0,
+    }
 }
 
-// A trail with 0 in every mark past its length; one that does not fit its array is left out.
+/// A trail with 0 in every mark past its length; one that does not fit its array is left out.
 pub fn cleared(trail: Trail) -> Trail
     ensures { result ≡ cleared_to trail }
 {
@@ -34,22 +34,16 @@ pub fn cleared(trail: Trail) -> Trail
         return no_trail();
     }
     let mut kept = no_marks();
-    let mut i = 0;
-    while i < len {
-        kept[i] = marks[i];
-        i += 1;
-    }
+    kept[..len].copy_from_slice(&marks[..len]);
     Trail { marks: kept, len }
 }
 
-// A search with 0 in every mark past a marking's length, and in every mark where there is no best marking.
+/// A search with 0 in every mark past a marking's length, and in every mark where there is no best marking.
 pub fn normal(mut search: Search) -> Search
     ensures { result ≡ normal_of search }
 {
-    let trail = cleared(search.trail);
-    let best = best_or_none(search.found, search.best);
-    search.trail = trail;
-    search.best = best;
+    search.trail = cleared(search.trail);
+    search.best = best_or_none(search.found, search.best);
     search
 }
 
@@ -57,31 +51,22 @@ pub fn normal(mut search: Search) -> Search
 fn best_or_none(found: bool, best: Trail) -> Trail
     ensures { result ≡ best_to found best }
 {
-    if found {
-        return cleared(best);
-    }
-    no_trail()
+    if found { cleared(best) } else { no_trail() }
 }
 
 // A search of a pattern without nonzeros, which is complete.
 fn blank(m: u64, n: u64, nonzeros: u64, caps: Caps) -> Search
     ensures { result ≡ search_of (fresh m n nonzeros caps 0) }
 {
-    let best = no_trail();
-    let trail = no_trail();
     Search {
         m,
         n,
         nonzeros,
         cap0: caps.cap0,
         cap1: caps.cap1,
-        tries: 0,
-        looks: 0,
-        best_count: 0,
         found: true,
-        best,
         complete: true,
-        trail,
+        ..no_search()
     }
 }
 
@@ -89,34 +74,26 @@ fn blank(m: u64, n: u64, nonzeros: u64, caps: Caps) -> Search
 fn first_trail() -> Trail
     ensures { result ≡ trail_of (0 ∷ []) }
 {
-    let empty = no_trail();
-    empty.append(0)
+    no_trail().append(0)
 }
 
 // A fresh search of k + 1 lines with nonzeros.
 fn begun(m: u64, n: u64, nonzeros: u64, caps: Caps, k: u16) -> Search
     ensures { result ≡ search_of (fresh m n nonzeros caps (suc k)) }
 {
-    let best = no_trail();
-    let trail = first_trail();
-    let count = long16(k) + 2;
     Search {
         m,
         n,
         nonzeros,
         cap0: caps.cap0,
         cap1: caps.cap1,
-        tries: 0,
-        looks: 0,
-        best_count: count,
-        found: false,
-        best,
-        complete: false,
-        trail,
+        best_count: u64::from(k) + 2,
+        trail: first_trail(),
+        ..no_search()
     }
 }
 
-// A fresh search of k lines with nonzeros.
+/// A fresh search of k lines with nonzeros.
 pub fn fresh_search(m: u64, n: u64, nonzeros: u64, caps: Caps, k: u16) -> Search
     ensures { result ≡ search_of (fresh m n nonzeros caps k) }
 {
@@ -126,8 +103,8 @@ pub fn fresh_search(m: u64, n: u64, nonzeros: u64, caps: Caps, k: u16) -> Search
     begun(m, n, nonzeros, caps, k - 1)
 }
 
-// The search of a refused opening, with nothing in it.
-pub fn no_search() -> Search
+// A search with nothing in it.
+fn no_search() -> Search
     ensures { result ≡ search_of no_record }
 {
     let best = no_trail();
@@ -146,11 +123,4 @@ pub fn no_search() -> Search
         complete: false,
         trail,
     }
-}
-
-// Complete 0 or 1.
-pub fn complete_number(complete: bool) -> u64
-    ensures { result ≡ complete_number complete }
-{
-    if complete { 1 } else { 0 }
 }

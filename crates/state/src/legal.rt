@@ -10,12 +10,10 @@ use trail::{MARK_ROOM, is_part, mark_at};
 pub(crate) fn are_marks(marks: &[u8; MARK_ROOM], end: usize) -> bool
     ensures { result ≡ marks_legal marks.now end }
 {
-    let mut i = 0;
-    while i < end {
+    for i in 0..end {
         if 2 < mark_at(marks, i) {
             return false;
         }
-        i += 1;
     }
     true
 }
@@ -24,17 +22,14 @@ pub(crate) fn are_marks(marks: &[u8; MARK_ROOM], end: usize) -> bool
 fn one_denied(mark: u8, allowed: bool) -> bool
     ensures { result ≡ one_denied mark allowed }
 {
-    if allowed {
-        return false;
-    }
-    mark == 1
+    !allowed && mark == 1
 }
 
 // Mark 1 is allowed behind this mark: it is 0 or 1, or mark 1 was allowed before it.
 fn allowed_behind(mark: u8, allowed: bool) -> bool
     ensures { result ≡ is_part mark or allowed }
 {
-    if is_part(mark) { true } else { allowed }
+    is_part(mark) || allowed
 }
 
 // Mark 1 stands before an index only where it is allowed: it may come first, or some earlier mark is 0 or 1.
@@ -42,29 +37,25 @@ pub(crate) fn ones_allowed(marks: &[u8; MARK_ROOM], end: usize, first: bool) -> 
     ensures { result ≡ ones_legal first marks.now end }
 {
     let mut allowed = first;
-    let mut i = 0;
-    while i < end {
+    for i in 0..end {
         let mark = mark_at(marks, i);
         if one_denied(mark, allowed) {
             return false;
         }
         allowed = allowed_behind(mark, allowed);
-        i += 1;
     }
     true
 }
 
-// The number of marks cut before an index.
+/// The number of marks cut before an index.
 pub fn cuts_before(marks: &[u8; MARK_ROOM], end: usize) -> u64
     ensures { result ≡ cuts_in marks.now end }
 {
     let mut cuts = 0u64;
-    let mut i = 0;
-    while i < end {
+    for i in 0..end {
         if mark_at(marks, i) == 2 {
             cuts += 1;
         }
-        i += 1;
     }
     cuts
 }

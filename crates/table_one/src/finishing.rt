@@ -3,100 +3,105 @@ use crate::figures::print_figures;
 use crate::files::{PAGE_ROOM, read_named};
 use answering::OUTPUT_ROOM;
 use model::limits::{BUDGET_LIMIT, LIST_ROOM, PART_ROOM};
-use model::{CapAnswer, Search, ShowAnswer, Verdict};
+use model::{Search, Shown};
 use pattern::cap::cap_from_percent;
-use state::holding::complete_number;
-use std::io::Result;
+use std::io;
 use std::rt::Files;
-use texts::ReadAnswer;
+use texts::TextRead;
 use texts::read::read;
 use writing::Figures;
 use writing::write::lines::{put_none, put_refused};
 use writing::write::write;
 
-// Makes runs with the largest budget of a call until the search is complete, and at most so many.
-fn run_on(mut search: Search, m: u64, n: u64, nonzeros: u64, list: &[u8], runs: u64) -> Search {
-    let mut left = runs;
-    while left > 0 {
-        if search.complete {
-            return search;
-        }
-        let ran = search::run(search, m, n, nonzeros, list, BUDGET_LIMIT);
-        let after = ran.search;
-        search = after;
-        left -= 1;
-    }
-    search
-}
-
-// Writes what is shown of a search: the text of its split, or "none yet".
-fn put_shown(
-    search: Search,
-    rest: u64,
+// A pattern as its text gives it.
+#[derive(Clone, Copy)]
+struct Pattern<'a> {
     m: u64,
     n: u64,
     nonzeros: u64,
-    list: &[u8],
-    out: &mut [u8],
-) {
-    let mut parts = [0u8; PART_ROOM];
-    let shown = search::show(search, m, n, nonzeros, list, &mut parts);
-    match shown {
-        ShowAnswer::Split { volume, floor } => {
-            let figures = Figures {
-                volume,
-                cap0: search.cap0,
-                cap1: search.cap1,
-                rest,
-                tries: search.tries,
-                floor,
-                complete: complete_number(search.complete),
-            };
-            write(m, n, nonzeros, list, &parts, figures, out);
-        }
-        ShowAnswer::NoneYet { floor } => {
-            put_none(out, search.cap0, search.cap1, rest, search.tries, floor);
-        }
-        ShowAnswer::Refused(word, place) => {
-            put_refused(out, word, place);
-        }
-    }
+    list: &'a [u8],
 }
 
-// Opens a search with this cap for both parts, makes the runs and writes what is shown.
-fn put_opened(
-    m: u64,
-    n: u64,
-    nonzeros: u64,
-    list: &[u8],
-    cap: u64,
-    rest: u64,
-    runs: u64,
-    out: &mut [u8],
-) {
-    let opened = search::open(m, n, nonzeros, list, cap, cap);
-    let verdict = opened.verdict;
-    let fresh = opened.search;
-    match verdict {
-        Verdict::Accepted => {
-            let search = run_on(fresh, m, n, nonzeros, list, runs);
-            put_shown(search, rest, m, n, nonzeros, list, out);
+impl Pattern<'_> {
+    // Makes runs with the largest budget of a call until the search is complete, and at most so many.
+    fn run_on(&self, mut search: Search, runs: u64) -> Search {
+        for _ in 0..runs {
+            if search.complete {
+                break;
+            }
+            search = search::run(
+                search,
+                self.m,
+                self.n,
+                self.nonzeros,
+                self.list,
+                BUDGET_LIMIT,
+            )
+            .search;
         }
-        Verdict::Refused(word, place) => {
-            put_refused(out, word, place);
+        search
+    }
+
+    // Writes what is shown of a search: the text of its split, or "none yet".
+    fn put_shown(&self, search: &Search, rest: u64, out: &mut [u8]) {
+        let mut parts = [0u8; PART_ROOM];
+        match search::show(
+            *search,
+            self.m,
+            self.n,
+            self.nonzeros,
+            self.list,
+            &mut parts,
+        ) {
+            Ok(Shown::Split { volume, floor }) => {
+                let figures = Figures {
+                    volume,
+                    cap0: search.cap0,
+                    cap1: search.cap1,
+                    rest,
+                    tries: search.tries,
+                    floor,
+                    complete: u64::from(search.complete),
+                };
+                let _ = write(
+                    self.m,
+                    self.n,
+                    self.nonzeros,
+                    self.list,
+                    &parts,
+                    figures,
+                    out,
+                );
+            }
+            Ok(Shown::NoneYet { floor }) => {
+                put_none(out, search.cap0, search.cap1, rest, search.tries, floor);
+            }
+            Err(refusal) => {
+                put_refused(out, refusal.word, refusal.place);
+            }
         }
     }
-}
 
-// Splits a pattern at 3 percent.
-fn put_pattern(m: u64, n: u64, nonzeros: u64, list: &[u8], runs: u64, out: &mut [u8]) {
-    let capped = cap_from_percent(nonzeros, 3);
-    match capped {
-        CapAnswer::Capped { cap, rest } => {
-            put_opened(m, n, nonzeros, list, cap, rest, runs, out);
+    // Opens a search with this cap for both parts, makes the runs and writes what is shown.
+    fn put_opened(&self, cap: u64, rest: u64, runs: u64, out: &mut [u8]) {
+        match search::open(self.m, self.n, self.nonzeros, self.list, cap, cap) {
+            Ok(opened) => {
+                let search = self.run_on(opened, runs);
+                self.put_shown(&search, rest, out);
+            }
+            Err(refusal) => {
+                put_refused(out, refusal.word, refusal.place);
+            }
         }
-        CapAnswer::Refused(word, place) => {
-            put_refused(out, word, place);
+    }
+
+    // Splits the pattern at 3 percent.
+    fn put_split(&self, runs: u64, out: &mut [u8]) {
+        match cap_from_percent(self.nonzeros, 3) {
+            Ok(capped) => self.put_opened(capped.cap, capped.rest, runs, out),
+            Err(refusal) => {
+                put_refused(out, refusal.word, refusal.place);
+            }
         }
     }
 }
@@ -105,35 +110,28 @@ fn put_pattern(m: u64, n: u64, nonzeros: u64, list: &[u8], runs: u64, out: &mut 
 fn put_text(text: &[u8], runs: u64, out: &mut [u8]) {
     let mut list = [0u8; LIST_ROOM];
     let mut parts = [0u8; PART_ROOM];
-    let read = read(text, &mut list, &mut parts);
-    match read {
-        ReadAnswer::Read {
-            m,
-            n,
-            nonzeros,
-            integer: _,
-        } => put_pattern(m, n, nonzeros, &list, runs, out),
-        ReadAnswer::Refused(word, place) => {
-            put_refused(out, word, place);
+    match read(text, &mut list, &mut parts) {
+        Ok(TextRead { m, n, nonzeros, .. }) => {
+            let pattern = Pattern {
+                m,
+                n,
+                nonzeros,
+                list: &list,
+            };
+            pattern.put_split(runs, out);
+        }
+        Err(refusal) => {
+            put_refused(out, refusal.word, refusal.place);
         }
     }
 }
 
-// Splits the pattern of the first bytes of a page.
-fn put_start(page: &[u8], len: usize, runs: u64, out: &mut [u8]) {
-    if len <= page.len() {
-        put_text(&page[0..len], runs, out);
-    }
-}
-
 // Prints the name of a file and the figures of its split after at most so many runs.
-pub(crate) fn print_file(rt: &impl Files, name: &str, runs: u64) -> Result<()> {
+pub(crate) fn print_file(rt: &(impl Files + Print), name: &str, runs: u64) -> io::Result<()> {
     let mut page = [0u8; PAGE_ROOM];
     let mut out = [0u8; OUTPUT_ROOM];
-    let len = read_named(rt, name, &mut page, 0)?;
-    put_start(&page, len, runs, &mut out);
-    io::write_all(1, name.as_bytes());
-    io::write_all(1, b": ");
-    print_figures(&out);
-    Ok(())
+    let count = read_named(rt, name, &mut page)?;
+    put_text(&page[..count], runs, &mut out);
+    print!(rt; "{name}: ")?;
+    print_figures(rt, &out)
 }

@@ -13,6 +13,7 @@ mod forms;
 
 use crate::finishing::print_file;
 use crate::forms::print_forms;
+use std::io;
 
 // More runs than any of the searches that end takes: the longest takes 237.
 const TO_THE_END: u64 = 400;
@@ -21,7 +22,7 @@ const TO_THE_END: u64 = 400;
 const SOME: u64 = 10;
 
 // Every file in the order of the table, then the forms of the symmetric ones.
-fn main(rt: HostRuntime) -> std::io::Result<()> {
+fn main(rt: HostRuntime) -> io::Result<()> {
     print_file(&rt, "karate.mtx", TO_THE_END)?;
     print_file(&rt, "divorce.mtx", TO_THE_END)?;
     print_file(&rt, "cage5.mtx", TO_THE_END)?;
@@ -36,6 +37,5 @@ fn main(rt: HostRuntime) -> std::io::Result<()> {
     print_forms(&rt, "mesh1e1.mtx", "mesh1e1_symmetric.mtx")?;
     print_forms(&rt, "mesh1e1.mtx", "mesh1e1_real.mtx")?;
     print_forms(&rt, "chesapeake.mtx", "chesapeake_symmetric.mtx")?;
-    print_forms(&rt, "steam3.mtx", "steam3_symmetric.mtx")?;
-    Ok(())
+    print_forms(&rt, "steam3.mtx", "steam3_symmetric.mtx")
 }

@@ -52,6 +52,14 @@ digits_at cases at = digits_from 0 at (drop at cases)
 unfoldable pub number_at : List ℕ → ℕ → Field
 number_at cases at = let digits = digits_at cases at in field_of cases digits.value digits.next
 
+-- the number that a field gives
+abbrev pub number_of : List ℕ → ℕ → ℕ
+number_of cases at = (number_at cases at).value
+
+-- the place of the field after it
+abbrev pub past_number : List ℕ → ℕ → ℕ
+past_number cases at = (number_at cases at).next
+
 -- the number that is given at a place of a field of numbers, and the place of the next one or of the field's end
 unfoldable pub number_given : List ℕ → ℕ → Field
 number_given cases at =

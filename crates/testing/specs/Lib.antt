@@ -1,2 +1,3 @@
 pub mod Cases
 pub mod Laid
+pub mod Patterns

@@ -8,18 +8,15 @@ use pattern::reading::put;
 pub fn first(page: &[u8], len: usize) -> &[u8]
     ensures { result.now ≡ take len page.now }
 {
-    if len <= page.len() {
-        &page[0..len]
-    } else {
-        page
-    }
+    &page[..len.min(page.len())]
 }
 
 // The place after another, up to a million.
+#[tactic(auto, unfolding(counting::specs::Tests::pick))]
 fn place_after(at: usize) -> usize
     ensures { result ≡ place_after at }
 {
-    if at < 1000000 { at + 1 } else { at }
+    if at < 1_000_000 { at + 1 } else { at }
 }
 
 // Bytes laid out in a page from a place on, and the place after them. What falls past the page's end is left out.
@@ -28,16 +25,15 @@ pub fn lay(page: &mut [u8], at: usize, bytes: &[u8]) -> usize
         × (page.new ≡ laid page.old at bytes.now) }
 {
     let mut next = at;
-    let mut i: usize = 0;
-    while i < bytes.len() {
-        put(page, next, bytes[i]);
+    for byte in bytes {
+        put(page, next, *byte);
         next = place_after(next);
-        i += 1;
     }
     next
 }
 
 // The mark that a letter stands for: 0, 1, c for cut, any other letter for a byte that is no mark.
+#[tactic(auto, unfolding(counting::specs::Tests::pick))]
 fn mark_of(letter: u8) -> u8
     ensures { result ≡ mark_of letter }
 {
@@ -53,9 +49,7 @@ fn mark_of(letter: u8) -> u8
 pub fn lay_marks(page: &mut [u8], letters: &[u8])
     ensures { page.new ≡ marks_laid page.old 0 letters.now }
 {
-    let mut i: usize = 0;
-    while i < letters.len() {
-        put(page, i, mark_of(letters[i]));
-        i += 1;
+    for (i, letter) in letters.iter().enumerate() {
+        put(page, i, mark_of(*letter));
     }
 }

@@ -4,7 +4,9 @@
 pub mod cases;
 pub mod comparing;
 pub mod laying;
+pub mod patterns;
 pub mod saying;
+pub mod searches;
 
 // How the bytes of a field are written: as letters, or as numbers with one letter between two of them, which are bytes, or row and column
 // numbers of two bytes each, lowest first.
@@ -17,7 +19,7 @@ pub enum Kind {
 
 // What a field gives, a number or how many bytes, and where the next field starts.
 #[derive(Clone, Copy)]
-pub struct Field {
-    pub value: u64,
-    pub next: usize,
+struct Field {
+    value: u64,
+    next: usize,
 }

@@ -1,66 +1,44 @@
-// Words, numbers, bytes, refusals and answers printed.
+// Fields, bytes, refusals and answers printed.
 ghost use Rattle.std.specs.Prelude.{◌≡◌};
 ghost use Rattle.testing.specs.declared.Kind.TheVariants.{Text};
 ghost use Rattle.testing.specs.Cases.{field_at, empty_page};
 
 use crate::Kind;
-use crate::cases::field_at;
+use crate::cases::Cases;
 use crate::laying::first;
-use model::{RunAnswer, Word};
-use pattern::reading::long;
-use pattern::refusals::refusal_number;
+use model::{Ended, Refusal};
+use std::io;
 
-// Words as they are.
-pub fn say(words: &[u8]) {
-    io::write_all(1, words);
-}
-
-// Words and a number.
-pub fn say_number(words: &[u8], x: u64) {
-    io::write_all(1, words);
-    io::print_decimal(1, x);
-}
-
-// Words and the bytes of a slice as numbers.
-pub fn say_bytes(words: &[u8], bytes: &[u8]) {
-    say(words);
-    let mut i: usize = 0;
-    while i < bytes.len() {
-        say_number(b" ", long(bytes[i]));
-        i += 1;
-    }
-}
-
-// The text of a field, of which 128 bytes are printed at most, and the place of the next field.
-pub fn say_field(cases: &[u8], at: usize) -> usize
-    ensures { result ≡ (field_at Text cases.now at empty_page).0.next }
+/// Prints the text of a field, of which 128 bytes are printed at most. Where printing fails, the field is read all the same.
+pub fn say_field(rt: &impl Print, cases: &mut Cases<'_>) -> io::Result<()>
+    ensures { cases.new ≡ record cases.old { at = (field_at Text cases.old.text.now cases.old.at empty_page).0.next } }
 {
     let mut page = [0u8; 128];
-    let field = field_at(cases, at, Kind::Text, &mut page);
-    say(first(&page, field.value as usize));
-    field.next
+    let len = cases.field(Kind::Text, &mut page);
+    rt.write_all(first(&page, len))
 }
 
-// The first words where a test passes, and the others where it fails.
-pub fn say_which(test: bool, first: &[u8], others: &[u8]) {
-    if test {
-        say(first);
-    } else {
-        say(others);
+/// Prints words, and the bytes of a slice as numbers.
+pub fn say_bytes(rt: &impl Print, words: &str, bytes: &[u8]) -> io::Result<()> {
+    print!(rt; "{words}")?;
+    for byte in bytes {
+        print!(rt; " {byte}")?;
     }
+    Ok(())
 }
 
-// A refusal, by the table's number and its place.
-pub fn say_refused(word: Word, place: u64) {
-    say_number(b" refused ", refusal_number(word));
-    say_number(b" at ", place);
+/// Prints a refusal, by the table's number and its place.
+pub fn say_refused(rt: &impl Print, refusal: Refusal) -> io::Result<()> {
+    let number = u64::from(refusal.word);
+    let place = refusal.place;
+    print!(rt; " refused {number} at {place}")
 }
 
-// What a run answers.
-pub fn say_run(answer: RunAnswer) {
+/// Prints what a run answers.
+pub fn say_run(rt: &impl Print, answer: Result<Ended, Refusal>) -> io::Result<()> {
     match answer {
-        RunAnswer::Complete { looks } => say_number(b" complete looks ", looks),
-        RunAnswer::Stopped { looks } => say_number(b" stopped looks ", looks),
-        RunAnswer::Refused(word, place) => say_refused(word, place),
+        Ok(Ended::Complete { looks }) => print!(rt; " complete looks {looks}"),
+        Ok(Ended::Stopped { looks }) => print!(rt; " stopped looks {looks}"),
+        Err(refusal) => say_refused(rt, refusal),
     }
 }

@@ -1,21 +1,19 @@
 -- Document 01, 'Texts' and 'Refusal table', and request 1 of document 02: the entries in text order, each 3, 5, 16 for symmetric, 8, 6, with 7 for one too many or missing.
 -- Assumes nothing.
-use Rattle.std.specs.Prelude.{Bool, false, not, List, ℕ, zero, suc, ◌+◌, ◌-◌, ◌*◌, eqb, ltb, leb, length, get_or, set, replicate}
+use Rattle.std.specs.Prelude.{Ok, Err}
+use Rattle.std.specs.Prelude.{Bool, false, not, Option, Some, None, List, ℕ, zero, suc, ◌+◌, ◌-◌, ◌*◌, eqb, ltb, leb, length, get_or, set, replicate}
 use Rattle.counting.specs.Tests.{◌and◌, ◌or◌, pick, bit}
 use Rattle.model.specs.declared.Word.TheVariants.{EntryForm, OffMatrix, Repeated, Count, BadPart, AboveDiagonal}
-use Rattle.model.specs.declared.Verdict.{Verdict}
-use Rattle.model.specs.declared.Verdict.TheVariants.{Accepted, Refused}
 use Rattle.model.specs.Limits.{line_limit}
-use Rattle.model.specs.Refusal.{refuse, ◌then◌}
+use Rattle.model.specs.Refusal.{Verdict, accepted, refused, refuse, ◌then◌}
 use Rattle.model.specs.Calls.{outside}
 use Rattle.texts.specs.declared.Header.{Header}
-use Rattle.texts.specs.declared.Progress.{Progress}
 use Rattle.scanning.specs.declared.Numbers.{Numbers}
 use Rattle.scanning.specs.Lines.{line_end, line_next, empty_line}
 use Rattle.scanning.specs.Words.{numbers_at}
 
 -- the entry of a line: "i j", "i j p" for integer, or "i j v" for real
-unfoldable pub entry_at : List ℕ → Header → ℕ → Numbers
+unfoldable pub entry_at : List ℕ → Header → ℕ → Option Numbers
 entry_at text h at = numbers_at text at (line_end text at) h.field
 
 -- the cell of row i and column j, counted from 1, in a table with line_limit cells for each row
@@ -47,10 +45,10 @@ unfoldable pub above_diagonal : Header → Numbers → Bool
 above_diagonal h e = h.symmetric and ltb e.first e.second
 
 -- 3, 5, 16 for symmetric, 8, 6: the checks of an entry
-unfoldable pub entry_check : Header → Numbers → ℕ → List ℕ → Verdict
-entry_check h e place cells =
-    refuse (not e.fine) EntryForm place
-    then refuse (outside h.m e.first or outside h.n e.second) OffMatrix place
+unfoldable pub entry_check : Header → Option Numbers → ℕ → List ℕ → Verdict
+entry_check h None place cells = refused EntryForm place
+entry_check h (Some e) place cells =
+    refuse (outside h.m e.first or outside h.n e.second) OffMatrix place
     then refuse (above_diagonal h e) AboveDiagonal place
     then refuse (outside 2 e.third) BadPart place
     then refuse (is_given cells (cell_of e.first e.second)) Repeated place
@@ -60,7 +58,7 @@ unfoldable pub line_verdict : List ℕ → Header → ℕ → ℕ → List ℕ �
 line_verdict text h at count cells =
     pick
     (empty_line text at)
-    Accepted
+    accepted
     (refuse (leb h.entries count) Count at then entry_check h (entry_at text h at) at cells)
 
 -- the cells after an entry: it stands for its own nonzero and the other, both in its part
@@ -69,10 +67,15 @@ opened h e cells =
     let mark = cell_mark e.third in
     set (set cells (cell_of e.first e.second) mark) (mirror_of h e) mark
 
+-- the cells after the entry of a line, if it has one
+unfoldable pub noted_entry : Header → Option Numbers → List ℕ → List ℕ
+noted_entry h None cells = cells
+noted_entry h (Some e) cells = opened h e cells
+
 -- the cells after a line
 unfoldable pub noted : List ℕ → Header → ℕ → List ℕ → List ℕ
 noted text h at cells =
-    pick (empty_line text at) cells (opened h (entry_at text h at) cells)
+    pick (empty_line text at) cells (noted_entry h (entry_at text h at) cells)
 
 -- 7: an entry missing
 unfoldable pub end_verdict : ℕ → Header → ℕ → Verdict
@@ -85,8 +88,8 @@ pub record Entries : Type 0 where
 
 -- after a line with this verdict: the first refusal ends the reading
 unfoldable pub after : Verdict → List ℕ → Entries → Entries
-after Accepted cells rest = rest
-after (Refused word place) cells rest = record { verdict = Refused word place; cells = cells }
+after (Ok _) cells rest = rest
+after (Err refusal) cells rest = record { verdict = Err refusal; cells = cells }
 
 -- the lines from `at` on, with so many entries before them, looking at so many lines
 unfoldable pub entries_from : List ℕ → Header → ℕ → ℕ → ℕ → List ℕ → Entries
@@ -100,16 +103,3 @@ entries_from text h (suc k) at count cells =
     cells
     (entries_from text h k (line_next text at) (count + bit (not (empty_line text at))) (noted text h at cells)))
     (record { verdict = end_verdict (length text) h count; cells = cells })
-
--- the reading goes on: nothing is refused yet, and text is left
-unfoldable pub reads_on : List ℕ → ℕ → Verdict → Bool
-reads_on text at Accepted = ltb at (length text)
-reads_on text at (Refused word place) = false
-
--- what the lines from `at` on give, after the lines before them
-unfoldable pub entries_after : List ℕ → Header → ℕ → Progress → List ℕ → Entries
-entries_after text h at p cells = after p.verdict cells (entries_from text h (length text) at p.count cells)
-
--- what is given where no line is left
-unfoldable pub end_after : List ℕ → Header → Progress → List ℕ → Entries
-end_after text h p cells = record { verdict = p.verdict then end_verdict (length text) h p.count; cells = cells }

@@ -1,16 +1,16 @@
 -- Document 01, 'Texts', and request 1 of document 02: the first line, the size line, and the checks before the entries.
 -- Assumes nothing.
-use Rattle.std.specs.Prelude.{Bool, true, false, not, List, [], ◌∷◌, ℕ, ◌*◌, eqb, ltb, length}
+use Rattle.std.specs.Prelude.{Bool, true, false, not, Option, Some, None, is_some, unwrap_or, List, [], ◌∷◌, ℕ, ◌*◌, eqb, ltb, length}
 use Rattle.counting.specs.Tests.{◌and◌, ◌or◌, pick}
 use Rattle.model.specs.declared.Word.TheVariants.{Banner, SizeLine, TooBig, ShortBuffer, NotSquare}
-use Rattle.model.specs.declared.Verdict.{Verdict}
-use Rattle.model.specs.Refusal.{refuse, ◌then◌}
+use Rattle.model.specs.Refusal.{Verdict, refuse, ◌then◌}
 use Rattle.model.specs.Pattern.{entry_bytes}
 use Rattle.model.specs.Calls.{sizes_verdict}
 use Rattle.scanning.specs.declared.Stretch.TheVariants.{Nonblanks}
+use Rattle.scanning.specs.declared.Field.{Field}
 use Rattle.scanning.specs.declared.Field.TheVariants.{Pattern, Integer, Real}
+use Rattle.scanning.specs.declared.Numbers.{Numbers}
 use Rattle.texts.specs.declared.Banner as banner
-use Rattle.texts.specs.declared.NamedField.{NamedField}
 use Rattle.texts.specs.declared.Header.{Header}
 use Rattle.scanning.specs.Checks.{moved}
 use Rattle.scanning.specs.Lines.{stretch_end, line_end, line_next, size_line_at}
@@ -52,16 +52,16 @@ abbrev pub #general : List ℕ
 abbrev pub #symmetric : List ℕ
 #symmetric = 115 ∷ 121 ∷ 109 ∷ 109 ∷ 101 ∷ 116 ∷ 114 ∷ 105 ∷ 99 ∷ []
 
--- F: pattern, integer or real
-unfoldable pub field_at : List ℕ → ℕ → ℕ → NamedField
+-- F: pattern, integer or real, if it is one of them
+unfoldable pub field_at : List ℕ → ℕ → ℕ → Option Field
 field_at text from stop =
     pick
     (same_word text from stop true #integer)
-    (record { named = true; field = Integer })
+    (Some Integer)
     (pick
     (same_word text from stop true #real)
-    (record { named = true; field = Real })
-    (record { named = same_word text from stop true #pattern; field = Pattern }))
+    (Some Real)
+    (pick (same_word text from stop true #pattern) (Some Pattern) None))
 
 -- first line, from offset 0: %%MatrixMarket (this case), then matrix coordinate F and general or symmetric, any letter case
 unfoldable pub banner_at : List ℕ → ℕ → banner.Banner
@@ -71,16 +71,20 @@ banner_at text end =
     let b = word_at text a.stop end in
     let f = word_at text b.stop end in
     let s = word_at text f.stop end in
-    let named = field_at text f.from f.stop in
+    let field = field_at text f.from f.stop in
     let symmetric = same_word text s.from s.stop true #symmetric in
     record {
       fine =
           (same_word text 0 stop false #banner and same_word text a.from a.stop true #matrix)
-          and ((same_word text b.from b.stop true #coordinate and named.named)
+          and ((same_word text b.from b.stop true #coordinate and is_some field)
           and ((same_word text s.from s.stop true #general or symmetric) and ends_at text s.stop end));
-      field = named.field;
+      field = unwrap_or field Pattern;
       symmetric = symmetric;
     }
+
+-- the numbers of a line that has not its form
+abbrev pub no_numbers : Numbers
+no_numbers = record { first = 0; second = 0; third = 0 }
 
 -- the first line, and the size line of three numbers past empty lines and comments: "m n N", or for symmetric m, n and the number of entries
 unfoldable pub header_of : List ℕ → Header
@@ -88,14 +92,15 @@ header_of text =
     let first = banner_at text (line_end text 0) in
     let at = size_line_at text (length text) (line_next text 0) in
     let sizes = numbers_at text at (line_end text at) Integer in
+    let numbers = unwrap_or sizes no_numbers in
     record {
       fine = first.fine;
       field = first.field;
       symmetric = first.symmetric;
-      sized = sizes.fine;
-      m = sizes.first;
-      n = sizes.second;
-      entries = sizes.third;
+      sized = is_some sizes;
+      m = numbers.first;
+      n = numbers.second;
+      entries = numbers.third;
       at = at;
       next = line_next text at;
     }

@@ -1,17 +1,15 @@
 -- Document 01, 'Texts', and request 1 of document 02: what reading a text gives, for any text and any slices.
 -- Assumes nothing.
-use Rattle.std.specs.Prelude.{List, [], ◌∷◌, ℕ, zero, suc, ◌-◌, ◌*◌, ◌/◌, ◌%◌, length, get_or, set}
+use Rattle.std.specs.Prelude.{List, [], ◌∷◌, ℕ, zero, suc, ◌-◌, ◌*◌, ◌/◌, ◌%◌, length, get_or, set, Bool, Result, Ok, Err}
 use Rattle.counting.specs.Tests.{pick, bit}
 use Rattle.counting.specs.Sums.{count}
-use Rattle.model.specs.declared.Verdict.{Verdict}
-use Rattle.model.specs.declared.Verdict.TheVariants.{Accepted, Refused}
 use Rattle.model.specs.Limits.{line_limit}
-use Rattle.model.specs.Refusal.{Reply, given, refusal, reply_after, ◌then◌}
+use Rattle.model.specs.declared.Refusal.{Refusal}
+use Rattle.model.specs.Refusal.{Verdict, accepted, Reply, given, reply_after, ◌then◌, answer_reply}
 use Rattle.model.specs.Pattern.{with_entry}
 use Rattle.scanning.specs.Words.{is_integer}
 use Rattle.texts.specs.declared.Header.{Header}
-use Rattle.texts.specs.declared.ReadAnswer.{ReadAnswer}
-use Rattle.texts.specs.declared.ReadAnswer.TheVariants as read_answer
+use Rattle.texts.specs.declared.TextRead.{TextRead}
 use Rattle.texts.specs.Header.{header_of, room_verdict, head_verdict}
 use Rattle.texts.specs.Entries.{no_cells, is_given, Entries, entries_from}
 
@@ -49,17 +47,20 @@ nonzeros_in h cells = count (is_given cells) (line_limit * h.m)
 
 -- symmetric, after the last entry: 4 for the opened N, at the size line, then 9; else these were checked before the entries
 unfoldable pub opened_verdict : Header → ℕ → ℕ → ℕ → Verdict
-opened_verdict h nonzeros list parts = pick h.symmetric (room_verdict h nonzeros list parts) Accepted
+opened_verdict h nonzeros list parts = pick h.symmetric (room_verdict h nonzeros list parts) accepted
+
+-- these sizes, and whether there are parts
+abbrev pub read_as : ℕ → ℕ → ℕ → Bool → Result TextRead Refusal
+read_as m n nonzeros integer = Ok (record { m = m; n = n; nonzeros = nonzeros; integer = integer })
 
 -- what a reading answers, after this verdict
-unfoldable pub answer_read : Verdict → Header → ℕ → ReadAnswer
-answer_read Accepted h nonzeros = read_answer.Read h.m h.n nonzeros (is_integer h.field)
-answer_read (Refused word place) h nonzeros = read_answer.Refused word place
+unfoldable pub answer_read : Verdict → Header → ℕ → Result TextRead Refusal
+answer_read verdict h nonzeros = verdict then read_as h.m h.n nonzeros (is_integer h.field)
 
 -- output only where nothing is refused
 unfoldable pub output_after : Verdict → List ℕ → List ℕ → List ℕ
-output_after Accepted new old = new
-output_after (Refused word place) new old = old
+output_after (Ok _) new old = new
+output_after (Err refusal) new old = old
 
 -- the list's bytes after this verdict
 unfoldable pub list_given : Verdict → Header → List ℕ → List ℕ → List ℕ
@@ -89,7 +90,7 @@ unfoldable pub cells_of : List ℕ → List ℕ
 cells_of text = (entries_below text (header_of text)).cells
 
 -- what a reading answers
-unfoldable pub read_call : List ℕ → List ℕ → List ℕ → ReadAnswer
+unfoldable pub read_call : List ℕ → List ℕ → List ℕ → Result TextRead Refusal
 read_call text list parts =
     let h = header_of text in
     answer_read (read_verdict text list parts) h (nonzeros_in h (cells_of text))
@@ -103,9 +104,8 @@ unfoldable pub read_parts : List ℕ → List ℕ → List ℕ → List ℕ
 read_parts text list parts = parts_given (read_verdict text list parts) (header_of text) (cells_of text) parts
 
 -- the number and values of each case of an answer: m, n, N, and 1 for integer, else 0
-unfoldable pub read_reply : ReadAnswer → Reply
-read_reply (read_answer.Read m n nonzeros integer) = given (m ∷ n ∷ nonzeros ∷ bit integer ∷ [])
-read_reply (read_answer.Refused word place) = refusal word place
+abbrev pub read_reply : Result TextRead Refusal → Reply
+read_reply = answer_reply (λ text. given (text.m ∷ text.n ∷ text.nonzeros ∷ bit text.integer ∷ []))
 
 -- what a reading replies: m and n of the header, N, and 1 for integer
 unfoldable pub read_replies : List ℕ → List ℕ → List ℕ → Reply

@@ -3,10 +3,9 @@
 use Rattle.std.specs.Prelude.{true, false, List, [], ◌∷◌, ◌++◌, ◌≡◌, refl, ℕ, length}
 use Rattle.counting.specs.Tests.{bit}
 use Rattle.model.specs.declared.Word.TheVariants.{Banner, SizeLine, EntryForm, TooBig, OffMatrix, Repeated, Count, BadPart, ShortBuffer}
-use Rattle.model.specs.declared.Verdict.TheVariants.{Accepted, Refused}
 use Rattle.model.specs.Pattern.{list_of}
-use Rattle.model.specs.Refusal.{given, refusal}
-use Rattle.texts.specs.declared.ReadAnswer.TheVariants as read_answer
+use Rattle.model.specs.Refusal.{accepted, refused, given, refusal}
+use Rattle.texts.specs.Reading.{read_as}
 use Rattle.texts.specs.Header.{header_of, head_verdict}
 use Rattle.texts.specs.Reading.{read_call, read_list, read_parts, read_reply}
 use Rattle.texts.specs.Computing.{computing}
@@ -32,7 +31,7 @@ abbrev room : List ℕ
 room = 9 ∷ 9 ∷ 9 ∷ 9 ∷ 9 ∷ 9 ∷ 9 ∷ 9 ∷ 9 ∷ 9 ∷ 9 ∷ 9 ∷ []
 
 -- sizes and format
-diagonal_read : read_call (pattern_line ++ diagonal) room [] ≡ read_answer.Read 2 2 2 false
+diagonal_read : read_call (pattern_line ++ diagonal) room [] ≡ read_as 2 2 2 false
 unfolding computing
 diagonal_read = refl
 
@@ -47,7 +46,7 @@ unfolding computing
 diagonal_parts = refl
 
 -- any letter case, comments, empty lines, CR before LF
-commented_read : read_call (integer_line ++ commented) room room ≡ read_answer.Read 2 2 2 true
+commented_read : read_call (integer_line ++ commented) room room ≡ read_as 2 2 2 true
 unfolding computing
 commented_read = refl
 
@@ -62,7 +61,7 @@ wide-text = 50 ∷ 32 ∷ 51 ∷ 48 ∷ 48 ∷ 32 ∷ 50 ∷ 10 ∷ 50 ∷ 32 �
 
 -- column numbers past a byte, to the last
 wide :
-    (read_call (pattern_line ++ wide-text) room [] ≡ read_answer.Read 2 300 2 false)
+    (read_call (pattern_line ++ wide-text) room [] ≡ read_as 2 300 2 false)
     × (read_list (pattern_line ++ wide-text) room [] ≡ 0 ∷ 0 ∷ 0 ∷ 1 ∷ 1 ∷ 0 ∷ 43 ∷ 1 ∷ 9 ∷ 9 ∷ 9 ∷ 9 ∷ [])
 unfolding computing
 wide = (refl, refl)
@@ -72,7 +71,7 @@ abbrev no_text-text : List ℕ
 no_text-text = []
 
 -- 1: an empty text
-no_text : read_call no_text-text room room ≡ read_answer.Refused Banner 0
+no_text : read_call no_text-text room room ≡ refused Banner 0
 unfolding computing
 no_text = refl
 
@@ -81,7 +80,7 @@ abbrev other-banner-text : List ℕ
 other-banner-text = 37 ∷ 37 ∷ 109 ∷ 97 ∷ 116 ∷ 114 ∷ 105 ∷ 120 ∷ 77 ∷ 97 ∷ 114 ∷ 107 ∷ 101 ∷ 116 ∷ 32 ∷ 109 ∷ 97 ∷ 116 ∷ 114 ∷ 105 ∷ 120 ∷ 32 ∷ 99 ∷ 111 ∷ 111 ∷ 114 ∷ 100 ∷ 105 ∷ 110 ∷ 97 ∷ 116 ∷ 101 ∷ 32 ∷ 112 ∷ 97 ∷ 116 ∷ 116 ∷ 101 ∷ 114 ∷ 110 ∷ 32 ∷ 103 ∷ 101 ∷ 110 ∷ 101 ∷ 114 ∷ 97 ∷ 108 ∷ 10 ∷ 49 ∷ 32 ∷ 49 ∷ 32 ∷ 48 ∷ 10 ∷ []
 
 -- 1: a letter of the first word in another case
-other_banner : read_call other-banner-text room room ≡ read_answer.Refused Banner 0
+other_banner : read_call other-banner-text room room ≡ refused Banner 0
 unfolding computing
 other_banner = refl
 
@@ -90,7 +89,7 @@ abbrev further-word-text : List ℕ
 further-word-text = 37 ∷ 37 ∷ 77 ∷ 97 ∷ 116 ∷ 114 ∷ 105 ∷ 120 ∷ 77 ∷ 97 ∷ 114 ∷ 107 ∷ 101 ∷ 116 ∷ 32 ∷ 109 ∷ 97 ∷ 116 ∷ 114 ∷ 105 ∷ 120 ∷ 32 ∷ 99 ∷ 111 ∷ 111 ∷ 114 ∷ 100 ∷ 105 ∷ 110 ∷ 97 ∷ 116 ∷ 101 ∷ 32 ∷ 112 ∷ 97 ∷ 116 ∷ 116 ∷ 101 ∷ 114 ∷ 110 ∷ 32 ∷ 103 ∷ 101 ∷ 110 ∷ 101 ∷ 114 ∷ 97 ∷ 108 ∷ 32 ∷ 120 ∷ 10 ∷ 49 ∷ 32 ∷ 49 ∷ 32 ∷ 48 ∷ 10 ∷ []
 
 -- 1: a further word
-further_word : read_call further-word-text room room ≡ read_answer.Refused Banner 0
+further_word : read_call further-word-text room room ≡ refused Banner 0
 unfolding computing
 further_word = refl
 
@@ -99,7 +98,7 @@ abbrev no-size-line-text : List ℕ
 no-size-line-text = 37 ∷ 32 ∷ 111 ∷ 110 ∷ 108 ∷ 121 ∷ 10 ∷ []
 
 -- 2: at the text's length
-no_size_line : read_call (pattern_line ++ no-size-line-text) room room ≡ read_answer.Refused SizeLine 56
+no_size_line : read_call (pattern_line ++ no-size-line-text) room room ≡ refused SizeLine 56
 unfolding computing
 no_size_line = refl
 
@@ -108,7 +107,7 @@ abbrev ten-digits-text : List ℕ
 ten-digits-text = 37 ∷ 10 ∷ 49 ∷ 32 ∷ 49 ∷ 32 ∷ 48 ∷ 48 ∷ 48 ∷ 48 ∷ 48 ∷ 48 ∷ 48 ∷ 48 ∷ 48 ∷ 48 ∷ 10 ∷ []
 
 -- 2: ten digits are no number
-ten_digits : read_call (pattern_line ++ ten-digits-text) room room ≡ read_answer.Refused SizeLine 51
+ten_digits : read_call (pattern_line ++ ten-digits-text) room room ≡ refused SizeLine 51
 unfolding computing
 ten_digits = refl
 
@@ -117,7 +116,7 @@ abbrev late-percent-text : List ℕ
 late-percent-text = 32 ∷ 37 ∷ 10 ∷ 49 ∷ 32 ∷ 49 ∷ 32 ∷ 48 ∷ 10 ∷ []
 
 -- 2: a comment starts with its percent sign
-late_percent : read_call (pattern_line ++ late-percent-text) room room ≡ read_answer.Refused SizeLine 49
+late_percent : read_call (pattern_line ++ late-percent-text) room room ≡ refused SizeLine 49
 unfolding computing
 late_percent = refl
 
@@ -126,7 +125,7 @@ abbrev large-rows-text : List ℕ
 large-rows-text = 51 ∷ 48 ∷ 49 ∷ 32 ∷ 49 ∷ 32 ∷ 48 ∷ 10 ∷ []
 
 -- 4: at the size line
-large_rows : read_call (pattern_line ++ large-rows-text) room room ≡ read_answer.Refused TooBig 49
+large_rows : read_call (pattern_line ++ large-rows-text) room room ≡ refused TooBig 49
 unfolding computing
 large_rows = refl
 
@@ -140,9 +139,9 @@ too_many-text = pattern_line ++ (51 ∷ 48 ∷ 48 ∷ 32 ∷ 51 ∷ 48 ∷ 48 �
 
 -- the checks before the entries: the largest sizes, with a list of 16,000 bytes, and a nonzero more
 largest :
-    (head_verdict (header_of largest-text) (length largest-text) 16000 0 ≡ Accepted)
-    × (head_verdict (header_of largest-text) (length largest-text) 15999 0 ≡ Refused ShortBuffer 0)
-    × (head_verdict (header_of too_many-text) (length too_many-text) 16004 0 ≡ Refused TooBig 49)
+    (head_verdict (header_of largest-text) (length largest-text) 16000 0 ≡ accepted)
+    × (head_verdict (header_of largest-text) (length largest-text) 15999 0 ≡ refused ShortBuffer 0)
+    × (head_verdict (header_of too_many-text) (length too_many-text) 16004 0 ≡ refused TooBig 49)
 unfolding computing
 largest = (refl, refl, refl)
 
@@ -151,7 +150,7 @@ abbrev many-text : List ℕ
 many-text = 49 ∷ 32 ∷ 49 ∷ 32 ∷ 50 ∷ 10 ∷ []
 
 -- 4: more nonzeros than cells
-many : read_call (pattern_line ++ many-text) room room ≡ read_answer.Refused TooBig 49
+many : read_call (pattern_line ++ many-text) room room ≡ refused TooBig 49
 unfolding computing
 many = refl
 
@@ -160,7 +159,7 @@ abbrev short-list-text : List ℕ
 short-list-text = 50 ∷ 32 ∷ 50 ∷ 32 ∷ 50 ∷ 10 ∷ 120 ∷ []
 
 -- 9: before the entries
-short_list : read_call (pattern_line ++ short-list-text) (9 ∷ 9 ∷ 9 ∷ []) [] ≡ read_answer.Refused ShortBuffer 0
+short_list : read_call (pattern_line ++ short-list-text) (9 ∷ 9 ∷ 9 ∷ []) [] ≡ refused ShortBuffer 0
 unfolding computing
 short_list = refl
 
@@ -169,7 +168,7 @@ abbrev three-numbers-text : List ℕ
 three-numbers-text = 49 ∷ 32 ∷ 49 ∷ 32 ∷ 49 ∷ 10 ∷ 10 ∷ 49 ∷ 32 ∷ 49 ∷ 32 ∷ 49 ∷ 10 ∷ []
 
 -- 3: at the entry's line
-three_numbers : read_call (pattern_line ++ three-numbers-text) room room ≡ read_answer.Refused EntryForm 56
+three_numbers : read_call (pattern_line ++ three-numbers-text) room room ≡ refused EntryForm 56
 unfolding computing
 three_numbers = refl
 
@@ -178,7 +177,7 @@ abbrev bare-return-text : List ℕ
 bare-return-text = 49 ∷ 32 ∷ 49 ∷ 32 ∷ 49 ∷ 10 ∷ 49 ∷ 32 ∷ 49 ∷ 13 ∷ []
 
 -- 3: a CR at the end of a text without LF stays
-bare_return : read_call (pattern_line ++ bare-return-text) room room ≡ read_answer.Refused EntryForm 55
+bare_return : read_call (pattern_line ++ bare-return-text) room room ≡ refused EntryForm 55
 unfolding computing
 bare_return = refl
 
@@ -187,7 +186,7 @@ abbrev row_zero-text : List ℕ
 row_zero-text = 49 ∷ 32 ∷ 49 ∷ 32 ∷ 49 ∷ 10 ∷ 48 ∷ 32 ∷ 49 ∷ 10 ∷ []
 
 -- 5: counted from 1
-row_zero : read_call (pattern_line ++ row_zero-text) room room ≡ read_answer.Refused OffMatrix 55
+row_zero : read_call (pattern_line ++ row_zero-text) room room ≡ refused OffMatrix 55
 unfolding computing
 row_zero = refl
 
@@ -196,7 +195,7 @@ abbrev again-text : List ℕ
 again-text = 50 ∷ 32 ∷ 50 ∷ 32 ∷ 51 ∷ 10 ∷ 49 ∷ 32 ∷ 50 ∷ 10 ∷ 50 ∷ 32 ∷ 49 ∷ 10 ∷ 32 ∷ 49 ∷ 32 ∷ 50 ∷ 10 ∷ []
 
 -- 6: the nonzero was given before
-again : read_call (pattern_line ++ again-text) room room ≡ read_answer.Refused Repeated 63
+again : read_call (pattern_line ++ again-text) room room ≡ refused Repeated 63
 unfolding computing
 again = refl
 
@@ -205,7 +204,7 @@ abbrev missing-text : List ℕ
 missing-text = 50 ∷ 32 ∷ 50 ∷ 32 ∷ 50 ∷ 10 ∷ 49 ∷ 32 ∷ 50 ∷ 10 ∷ []
 
 -- 7: at the text's length
-missing : read_call (pattern_line ++ missing-text) room room ≡ read_answer.Refused Count 59
+missing : read_call (pattern_line ++ missing-text) room room ≡ refused Count 59
 unfolding computing
 missing = refl
 
@@ -214,7 +213,7 @@ abbrev past-the-last-text : List ℕ
 past-the-last-text = 49 ∷ 32 ∷ 49 ∷ 32 ∷ 48 ∷ 10 ∷ 10 ∷ 37 ∷ 10 ∷ []
 
 -- 7: before the form of the line
-past_the_last : read_call (pattern_line ++ past-the-last-text) room room ≡ read_answer.Refused Count 56
+past_the_last : read_call (pattern_line ++ past-the-last-text) room room ≡ refused Count 56
 unfolding computing
 past_the_last = refl
 
@@ -223,19 +222,18 @@ abbrev part-three-text : List ℕ
 part-three-text = 49 ∷ 32 ∷ 49 ∷ 32 ∷ 49 ∷ 10 ∷ 49 ∷ 32 ∷ 49 ∷ 32 ∷ 51 ∷ 10 ∷ []
 
 -- 8: p is 1 or 2
-part_three : read_call (integer_line ++ part-three-text) room room ≡ read_answer.Refused BadPart 58
+part_three : read_call (integer_line ++ part-three-text) room room ≡ refused BadPart 58
 unfolding computing
 part_three = refl
 
 -- what a reading replies in numbers: m, n, N, and 1 for integer
-pattern_reply : read_reply (read_answer.Read 2 3 4 false) ≡ record { number = 0; place = 0; values = 2 ∷ 3 ∷ 4 ∷ 0 ∷ [] }
-unfolding read_reply given bit
+pattern_reply : read_reply (read_as 2 3 4 false) ≡ record { number = 0; place = 0; values = 2 ∷ 3 ∷ 4 ∷ 0 ∷ [] }
+unfolding bit
 pattern_reply = refl
 
-integer_reply : read_reply (read_answer.Read 2 3 4 true) ≡ record { number = 0; place = 0; values = 2 ∷ 3 ∷ 4 ∷ 1 ∷ [] }
-unfolding read_reply given bit
+integer_reply : read_reply (read_as 2 3 4 true) ≡ record { number = 0; place = 0; values = 2 ∷ 3 ∷ 4 ∷ 1 ∷ [] }
+unfolding bit
 integer_reply = refl
 
-again_reply : read_reply (read_answer.Refused Repeated 63) ≡ record { number = 6; place = 63; values = [] }
-unfolding read_reply refusal
+again_reply : read_reply (refused Repeated 63) ≡ record { number = 6; place = 63; values = [] }
 again_reply = refl

@@ -1,12 +1,12 @@
 -- Worked samples of reading symmetric texts and real values: texts read, and refusals with their places.
 -- Assumes nothing.
 use Rattle.std.specs.Prelude.{true, false, List, [], ◌∷◌, ◌++◌, ◌≡◌, refl, ℕ}
+use Rattle.model.specs.Refusal.{accepted, refused}
 use Rattle.model.specs.declared.Word.TheVariants.{Banner, EntryForm, TooBig, OffMatrix, Repeated, Count, ShortBuffer, NotSquare, AboveDiagonal}
-use Rattle.model.specs.declared.Verdict.TheVariants.{Accepted, Refused}
 use Rattle.model.specs.Pattern.{list_of}
 use Rattle.scanning.specs.declared.Field.TheVariants.{Pattern}
 use Rattle.texts.specs.declared.Header.{Header}
-use Rattle.texts.specs.declared.ReadAnswer.TheVariants as read_answer
+use Rattle.texts.specs.Reading.{read_as}
 use Rattle.texts.specs.Reading.{opened_verdict, read_call, read_list, read_parts}
 use Rattle.texts.specs.Computing.{computing}
 
@@ -39,7 +39,7 @@ opened-text = pattern_line ++ (50 ∷ 32 ∷ 50 ∷ 32 ∷ 50 ∷ 10 ∷ 50 ∷ 
 
 -- an entry below the diagonal stands for two nonzeros, one on it for one
 opened :
-    (read_call opened-text list-room parts-room ≡ read_answer.Read 2 2 3 false)
+    (read_call opened-text list-room parts-room ≡ read_as 2 2 3 false)
     × (read_list opened-text list-room parts-room ≡ list_of (0 ∷ 0 ∷ 0 ∷ 1 ∷ 1 ∷ 0 ∷ []) ++ (9 ∷ 9 ∷ 9 ∷ 9 ∷ []))
     × (read_parts opened-text list-room parts-room ≡ 9 ∷ 9 ∷ 9 ∷ 9 ∷ [])
 unfolding computing
@@ -51,7 +51,7 @@ both-in-its-part-text = integer_line ++ (50 ∷ 32 ∷ 50 ∷ 32 ∷ 50 ∷ 10 �
 
 -- both nonzeros of an entry are in its part
 both_in_its_part :
-    (read_call both-in-its-part-text list-room parts-room ≡ read_answer.Read 2 2 3 true)
+    (read_call both-in-its-part-text list-room parts-room ≡ read_as 2 2 3 true)
     × (read_list both-in-its-part-text list-room parts-room ≡ list_of (0 ∷ 1 ∷ 1 ∷ 0 ∷ 1 ∷ 1 ∷ []) ++ (9 ∷ 9 ∷ 9 ∷ 9 ∷ []))
     × (read_parts both-in-its-part-text list-room parts-room ≡ 1 ∷ 1 ∷ 0 ∷ 9 ∷ [])
 unfolding computing
@@ -63,7 +63,7 @@ valued-text = real_line ++ (50 ∷ 32 ∷ 50 ∷ 32 ∷ 50 ∷ 10 ∷ 50 ∷ 32 
 
 -- values are skipped, and one of 0 is a nonzero
 valued :
-    (read_call valued-text list-room parts-room ≡ read_answer.Read 2 2 2 false)
+    (read_call valued-text list-room parts-room ≡ read_as 2 2 2 false)
     × (read_list valued-text list-room parts-room ≡ list_of (0 ∷ 0 ∷ 1 ∷ 1 ∷ []) ++ (9 ∷ 9 ∷ 9 ∷ 9 ∷ 9 ∷ 9 ∷ 9 ∷ 9 ∷ []))
     × (read_parts valued-text list-room parts-room ≡ 9 ∷ 9 ∷ 9 ∷ 9 ∷ [])
 unfolding computing
@@ -75,7 +75,7 @@ valued-opened-text = both_line ++ (50 ∷ 32 ∷ 50 ∷ 32 ∷ 49 ∷ 10 ∷ 50 
 
 -- symmetric with real values
 valued-opened :
-    (read_call valued-opened-text list-room parts-room ≡ read_answer.Read 2 2 2 false)
+    (read_call valued-opened-text list-room parts-room ≡ read_as 2 2 2 false)
     × (read_list valued-opened-text list-room parts-room ≡ list_of (0 ∷ 1 ∷ 1 ∷ 0 ∷ []) ++ (9 ∷ 9 ∷ 9 ∷ 9 ∷ 9 ∷ 9 ∷ 9 ∷ 9 ∷ []))
     × (read_parts valued-opened-text list-room parts-room ≡ 9 ∷ 9 ∷ 9 ∷ 9 ∷ [])
 unfolding computing
@@ -86,7 +86,7 @@ abbrev not-square-text : List ℕ
 not-square-text = pattern_line ++ (50 ∷ 32 ∷ 51 ∷ 32 ∷ 48 ∷ 10 ∷ [])
 
 -- 15: at the size line
-not_square : read_call not-square-text list-room parts-room ≡ read_answer.Refused NotSquare 51
+not_square : read_call not-square-text list-room parts-room ≡ refused NotSquare 51
 unfolding computing
 not_square = refl
 
@@ -95,7 +95,7 @@ abbrev no_rows-text : List ℕ
 no_rows-text = pattern_line ++ (48 ∷ 32 ∷ 51 ∷ 32 ∷ 48 ∷ 10 ∷ [])
 
 -- 4 for m and n before 15
-no_rows : read_call no_rows-text list-room parts-room ≡ read_answer.Refused TooBig 51
+no_rows : read_call no_rows-text list-room parts-room ≡ refused TooBig 51
 unfolding computing
 no_rows = refl
 
@@ -104,7 +104,7 @@ abbrev above-text : List ℕ
 above-text = pattern_line ++ (50 ∷ 32 ∷ 50 ∷ 32 ∷ 49 ∷ 10 ∷ 49 ∷ 32 ∷ 50 ∷ 10 ∷ [])
 
 -- 16: at the entry
-above : read_call above-text list-room parts-room ≡ read_answer.Refused AboveDiagonal 57
+above : read_call above-text list-room parts-room ≡ refused AboveDiagonal 57
 unfolding computing
 above = refl
 
@@ -113,7 +113,7 @@ abbrev off-and-above-text : List ℕ
 off-and-above-text = pattern_line ++ (50 ∷ 32 ∷ 50 ∷ 32 ∷ 49 ∷ 10 ∷ 49 ∷ 32 ∷ 51 ∷ 10 ∷ [])
 
 -- 5 before 16
-off_and-above : read_call off-and-above-text list-room parts-room ≡ read_answer.Refused OffMatrix 57
+off_and-above : read_call off-and-above-text list-room parts-room ≡ refused OffMatrix 57
 unfolding computing
 off_and-above = refl
 
@@ -122,7 +122,7 @@ abbrev above-and-no-part-text : List ℕ
 above-and-no-part-text = integer_line ++ (50 ∷ 32 ∷ 50 ∷ 32 ∷ 49 ∷ 10 ∷ 49 ∷ 32 ∷ 50 ∷ 32 ∷ 51 ∷ 10 ∷ [])
 
 -- 16 before 8
-above-and_no_part : read_call above-and-no-part-text list-room parts-room ≡ read_answer.Refused AboveDiagonal 57
+above-and_no_part : read_call above-and-no-part-text list-room parts-room ≡ refused AboveDiagonal 57
 unfolding computing
 above-and_no_part = refl
 
@@ -131,7 +131,7 @@ abbrev again-text : List ℕ
 again-text = pattern_line ++ (50 ∷ 32 ∷ 50 ∷ 32 ∷ 50 ∷ 10 ∷ 50 ∷ 32 ∷ 49 ∷ 10 ∷ 50 ∷ 32 ∷ 49 ∷ 10 ∷ [])
 
 -- 6: the same entry twice
-again : read_call again-text list-room parts-room ≡ read_answer.Refused Repeated 61
+again : read_call again-text list-room parts-room ≡ refused Repeated 61
 unfolding computing
 again = refl
 
@@ -140,7 +140,7 @@ abbrev mirrored-text : List ℕ
 mirrored-text = pattern_line ++ (50 ∷ 32 ∷ 50 ∷ 32 ∷ 50 ∷ 10 ∷ 50 ∷ 32 ∷ 49 ∷ 10 ∷ 49 ∷ 32 ∷ 50 ∷ 10 ∷ [])
 
 -- 16 for the other nonzero of an entry
-mirrored : read_call mirrored-text list-room parts-room ≡ read_answer.Refused AboveDiagonal 61
+mirrored : read_call mirrored-text list-room parts-room ≡ refused AboveDiagonal 61
 unfolding computing
 mirrored = refl
 
@@ -149,7 +149,7 @@ abbrev large-count-text : List ℕ
 large-count-text = pattern_line ++ (49 ∷ 32 ∷ 49 ∷ 32 ∷ 57 ∷ 57 ∷ 57 ∷ 57 ∷ 57 ∷ 57 ∷ 57 ∷ 57 ∷ 57 ∷ 10 ∷ 49 ∷ 32 ∷ 49 ∷ 10 ∷ [])
 
 -- 7: the count has no range of its own
-large_count : read_call large-count-text list-room parts-room ≡ read_answer.Refused Count 69
+large_count : read_call large-count-text list-room parts-room ≡ refused Count 69
 unfolding computing
 large_count = refl
 
@@ -158,7 +158,7 @@ abbrev short-list-text : List ℕ
 short-list-text = pattern_line ++ (50 ∷ 32 ∷ 50 ∷ 32 ∷ 49 ∷ 10 ∷ 50 ∷ 32 ∷ 49 ∷ 10 ∷ [])
 
 -- 9 by the opened N
-short_list : read_call short-list-text (9 ∷ 9 ∷ 9 ∷ []) [] ≡ read_answer.Refused ShortBuffer 0
+short_list : read_call short-list-text (9 ∷ 9 ∷ 9 ∷ []) [] ≡ refused ShortBuffer 0
 unfolding computing
 short_list = refl
 
@@ -167,7 +167,7 @@ abbrev short-after-count-text : List ℕ
 short-after-count-text = pattern_line ++ (50 ∷ 32 ∷ 50 ∷ 32 ∷ 50 ∷ 10 ∷ 50 ∷ 32 ∷ 49 ∷ 10 ∷ [])
 
 -- 7 before 9
-short-after-count : read_call short-after-count-text [] [] ≡ read_answer.Refused Count 61
+short-after-count : read_call short-after-count-text [] [] ≡ refused Count 61
 unfolding computing
 short-after-count = refl
 
@@ -176,7 +176,7 @@ abbrev no-exponent-text : List ℕ
 no-exponent-text = real_line ++ (49 ∷ 32 ∷ 49 ∷ 32 ∷ 49 ∷ 10 ∷ 49 ∷ 32 ∷ 49 ∷ 32 ∷ 49 ∷ 101 ∷ 10 ∷ [])
 
 -- 3: a digit stands after an e
-no_exponent : read_call no-exponent-text list-room parts-room ≡ read_answer.Refused EntryForm 52
+no_exponent : read_call no-exponent-text list-room parts-room ≡ refused EntryForm 52
 unfolding computing
 no_exponent = refl
 
@@ -185,7 +185,7 @@ abbrev no_value-text : List ℕ
 no_value-text = real_line ++ (49 ∷ 32 ∷ 49 ∷ 32 ∷ 49 ∷ 10 ∷ 49 ∷ 32 ∷ 49 ∷ 10 ∷ [])
 
 -- 3: a value is missing
-no_value : read_call no_value-text list-room parts-room ≡ read_answer.Refused EntryForm 52
+no_value : read_call no_value-text list-room parts-room ≡ refused EntryForm 52
 unfolding computing
 no_value = refl
 
@@ -194,7 +194,7 @@ abbrev skew-text : List ℕ
 skew-text = 37 ∷ 37 ∷ 77 ∷ 97 ∷ 116 ∷ 114 ∷ 105 ∷ 120 ∷ 77 ∷ 97 ∷ 114 ∷ 107 ∷ 101 ∷ 116 ∷ 32 ∷ 109 ∷ 97 ∷ 116 ∷ 114 ∷ 105 ∷ 120 ∷ 32 ∷ 99 ∷ 111 ∷ 111 ∷ 114 ∷ 100 ∷ 105 ∷ 110 ∷ 97 ∷ 116 ∷ 101 ∷ 32 ∷ 112 ∷ 97 ∷ 116 ∷ 116 ∷ 101 ∷ 114 ∷ 110 ∷ 32 ∷ 115 ∷ 107 ∷ 101 ∷ 119 ∷ 45 ∷ 115 ∷ 121 ∷ 109 ∷ 109 ∷ 101 ∷ 116 ∷ 114 ∷ 105 ∷ 99 ∷ 10 ∷ 49 ∷ 32 ∷ 49 ∷ 32 ∷ 48 ∷ 10 ∷ []
 
 -- 1: another symmetry
-skew : read_call skew-text list-room parts-room ≡ read_answer.Refused Banner 0
+skew : read_call skew-text list-room parts-room ≡ refused Banner 0
 unfolding computing
 skew = refl
 
@@ -214,6 +214,6 @@ wide_header =
     }
 
 -- 4 for the opened N, at the size line, before 9
-opened_limit : (opened_verdict wide_header 4000 16000 0 ≡ Accepted) × (opened_verdict wide_header 4001 0 0 ≡ Refused TooBig 51)
+opened_limit : (opened_verdict wide_header 4000 16000 0 ≡ accepted) × (opened_verdict wide_header 4001 0 0 ≡ refused TooBig 51)
 unfolding computing
 opened_limit = (refl, refl)

@@ -1,69 +1,74 @@
 // The first line and the size line.
-ghost use Rattle.std.specs.Prelude.{◌≡◌};
+ghost use Rattle.std.specs.Prelude.{◌≡◌, true};
 ghost use Rattle.counting.specs.Tests.{pick};
+ghost use Rattle.scanning.specs.Words.{same_word};
 ghost use Rattle.texts.specs.Header.{field_at, banner_at, header_of, short, size_line_verdict, room_verdict, square_verdict, head_verdict};
 
-use crate::{Banner, Header, NamedField};
-use counting::joining::{both_of, either_of};
-use model::{Verdict, Word};
-use pattern::checks::{and_then, refuse_if, refuse_unless, sizes_verdict};
-use pattern::reading::wide32;
+use crate::{Banner, Header};
+use model::{Refusal, Word};
+use pattern::checks::{refuse_if, sizes_verdict};
 use readings::size_line;
 use scanning::lines::{line_end, stretch_end};
 use scanning::tests::move_to;
 use scanning::words::{ends_at, is_integer, numbers_at, same_word, word_at};
-use scanning::{Field, Stretch};
+use scanning::{Field, Numbers, Span, Stretch};
 
-// F: the field that the bytes between two places name.
-fn field_at(text: &[u8], from: usize, stop: usize) -> NamedField
-    ensures { result ≡ field_at text.now from stop }
+// A word of the text is this one, in any letter case.
+fn is_word(text: &[u8], word: Span, spelling: &[u8]) -> bool
+    ensures { result ≡ same_word text.now word.from word.stop true spelling.now }
 {
-    if same_word(text, from, stop, true, b"integer") {
-        return NamedField {
-            named: true,
-            field: Field::Integer,
-        };
-    }
-    if same_word(text, from, stop, true, b"real") {
-        return NamedField {
-            named: true,
-            field: Field::Real,
-        };
-    }
-    NamedField {
-        named: same_word(text, from, stop, true, b"pattern"),
-        field: Field::Pattern,
+    same_word(text, word.from, word.stop, true, spelling)
+}
+
+// F: the field that a word of the text names, if it names one.
+#[tactic(auto, using(scanning::proofs::Joins::joins), unfolding(crate::specs::Header::field_at))]
+fn field_at(text: &[u8], word: Span) -> Option<Field>
+    ensures { result ≡ field_at text.now word.from word.stop }
+{
+    if is_word(text, word, b"integer") {
+        Some(Field::Integer)
+    } else if is_word(text, word, b"real") {
+        Some(Field::Real)
+    } else if is_word(text, word, b"pattern") {
+        Some(Field::Pattern)
+    } else {
+        None
     }
 }
 
 // The first line, which ends at `end`.
+#[tactic(auto, using(scanning::proofs::Joins::joins), unfolding(crate::specs::Header::banner_at))]
 fn banner_at(text: &[u8], end: usize) -> Banner
     ensures { result ≡ banner_at text.now end }
 {
     let stop = stretch_end(text, Stretch::Nonblanks, 0, end);
     let mark = same_word(text, 0, stop, false, b"%%MatrixMarket");
     let a = word_at(text, stop, end);
-    let matrix = same_word(text, a.from, a.stop, true, b"matrix");
+    let matrix = is_word(text, a, b"matrix");
     let b = word_at(text, a.stop, end);
-    let coordinate = same_word(text, b.from, b.stop, true, b"coordinate");
+    let coordinate = is_word(text, b, b"coordinate");
     let f = word_at(text, b.stop, end);
-    let named = field_at(text, f.from, f.stop);
+    let field = field_at(text, f);
     let s = word_at(text, f.stop, end);
-    let general = same_word(text, s.from, s.stop, true, b"general");
-    let symmetric = same_word(text, s.from, s.stop, true, b"symmetric");
+    let general = is_word(text, s, b"general");
+    let symmetric = is_word(text, s, b"symmetric");
     let last = ends_at(text, s.stop, end);
-    let object = both_of(mark, matrix);
-    let format = both_of(coordinate, named.named);
-    let rest = both_of(either_of(general, symmetric), last);
-    let field = named.field;
     Banner {
-        fine: both_of(object, both_of(format, rest)),
-        field,
+        fine: mark && matrix && coordinate && field.is_some() && (general || symmetric) && last,
+        field: field.unwrap_or(Field::Pattern),
         symmetric,
     }
 }
 
+// What stands for the numbers of a size line that has none.
+const NO_NUMBERS: Numbers = Numbers {
+    first: 0,
+    second: 0,
+    third: 0,
+};
+
 // What stands before the entries.
+#[tactic(auto, using(scanning::proofs::Joins::joins), unfolding(crate::specs::Header::header_of))]
 pub(crate) fn header_of(text: &[u8]) -> Header
     ensures { result ≡ header_of text.now }
 {
@@ -72,63 +77,72 @@ pub(crate) fn header_of(text: &[u8]) -> Header
     let line = size_line(text);
     let stop = line_end(text, line.at);
     let sizes = numbers_at(text, line.at, stop, Field::Integer);
-    let field = banner.field;
+    let numbers = sizes.unwrap_or(NO_NUMBERS);
     Header {
         fine: banner.fine,
-        field,
+        field: banner.field,
         symmetric: banner.symmetric,
-        sized: sizes.fine,
-        m: sizes.first,
-        n: sizes.second,
-        entries: sizes.third,
+        sized: sizes.is_some(),
+        m: numbers.first,
+        n: numbers.second,
+        entries: numbers.third,
         at: line.at,
         next: line.next,
     }
 }
 
 // For so many nonzeros, the list slice has under 4 × N bytes, or for integer the parts slice under N.
+#[tactic(auto, using(scanning::proofs::Joins::joins), unfolding(crate::specs::Header::short))]
 fn is_short(header: Header, nonzeros: u32, list: usize, parts: usize) -> bool
     ensures { result ≡ short header nonzeros list parts }
 {
-    let needed = wide32(nonzeros);
-    let listed = list < 4 * needed;
-    let field = header.field;
-    let parted = both_of(is_integer(field), parts < needed);
-    either_of(listed, parted)
+    let needed = nonzeros as usize;
+    list < 4 * needed || is_integer(header.field) && parts < needed
 }
 
 // 4 at the size line, for m, n and so many nonzeros.
-fn size_line_verdict(header: Header, nonzeros: u32) -> Verdict
+#[tactic(auto, using(scanning::proofs::Joins::joins), unfolding(crate::specs::Header::size_line_verdict))]
+fn size_line_verdict(header: Header, nonzeros: u32) -> Result<(), Refusal>
     ensures { result ≡ size_line_verdict header nonzeros }
 {
-    let sizes = sizes_verdict(header.m as u64, header.n as u64, nonzeros as u64);
+    let sizes = sizes_verdict(
+        u64::from(header.m),
+        u64::from(header.n),
+        u64::from(nonzeros),
+    );
     move_to(sizes, header.at as u64)
 }
 
 // The same, then 9.
-pub(crate) fn room_verdict(header: Header, nonzeros: u32, list: usize, parts: usize) -> Verdict
+#[tactic(auto, using(scanning::proofs::Joins::joins), unfolding(crate::specs::Header::room_verdict))]
+pub(crate) fn room_verdict(
+    header: Header,
+    nonzeros: u32,
+    list: usize,
+    parts: usize,
+) -> Result<(), Refusal>
     ensures { result ≡ room_verdict header nonzeros list parts }
 {
-    let big = size_line_verdict(header, nonzeros);
-    let room = refuse_if(
+    size_line_verdict(header, nonzeros)?;
+    refuse_if(
         is_short(header, nonzeros, list, parts),
         Word::ShortBuffer,
         0,
-    );
-    and_then(big, room)
+    )
 }
 
 // The checks of a symmetric text's sizes: 4 for m and n alone, then 15.
-fn square_verdict(header: Header) -> Verdict
+#[tactic(auto, using(scanning::proofs::Joins::joins), unfolding(crate::specs::Header::square_verdict))]
+fn square_verdict(header: Header) -> Result<(), Refusal>
     ensures { result ≡ square_verdict header }
 {
-    let big = size_line_verdict(header, 0);
-    let square = refuse_unless(header.m == header.n, Word::NotSquare, header.at as u64);
-    and_then(big, square)
+    size_line_verdict(header, 0)?;
+    refuse_if(header.m != header.n, Word::NotSquare, header.at as u64)
 }
 
 // The checks of the size line's numbers: 4 and 9, or for symmetric 4 and 15.
-fn sizes_of(header: Header, list: usize, parts: usize) -> Verdict
+#[tactic(auto, using(scanning::proofs::Joins::joins))]
+fn sizes_of(header: Header, list: usize, parts: usize) -> Result<(), Refusal>
     ensures { result ≡ pick header.symmetric (square_verdict header) (room_verdict header header.entries list parts) }
 {
     if header.symmetric {
@@ -139,15 +153,17 @@ fn sizes_of(header: Header, list: usize, parts: usize) -> Verdict
 }
 
 // The checks before the entries: 4 for the text, 1, 2, then those of the size line's numbers.
-pub(crate) fn head_verdict(header: Header, text: usize, list: usize, parts: usize) -> Verdict
+#[tactic(auto, using(scanning::proofs::Joins::joins), unfolding(crate::specs::Header::head_verdict))]
+pub(crate) fn head_verdict(
+    header: Header,
+    text: usize,
+    list: usize,
+    parts: usize,
+) -> Result<(), Refusal>
     ensures { result ≡ head_verdict header text list parts }
 {
-    let place = header.at as u64;
-    let length = refuse_if(65536 < text, Word::TooBig, 0);
-    let banner = refuse_unless(header.fine, Word::Banner, 0);
-    let line = refuse_unless(header.sized, Word::SizeLine, place);
-    let sizes = sizes_of(header, list, parts);
-    let first = and_then(length, banner);
-    let second = and_then(first, line);
-    and_then(second, sizes)
+    refuse_if(65536 < text, Word::TooBig, 0)?;
+    refuse_if(!header.fine, Word::Banner, 0)?;
+    refuse_if(!header.sized, Word::SizeLine, header.at as u64)?;
+    sizes_of(header, list, parts)
 }

@@ -1,7 +1,6 @@
 // Reading a Matrix Market text into a list of nonzeros.
 #![tactic(auto)]
 
-use model::{Verdict, Word};
 use scanning::Field;
 
 pub mod entries;
@@ -9,14 +8,8 @@ pub mod giving;
 pub mod head;
 pub mod read;
 
-// The field that a word of the first line names, if it names one.
-#[derive(Clone, Copy)]
-pub struct NamedField {
-    pub named: bool,
-    pub field: Field,
-}
-
 // The first line: as it must be or not, F, and symmetric or general.
+// Kept: `fine` beside the values, which a Header takes over as they are.
 #[derive(Clone, Copy)]
 pub struct Banner {
     pub fine: bool,
@@ -25,6 +18,7 @@ pub struct Banner {
 }
 
 // What stands before the entries: the first line, where the size line is, what it holds, and where the next line is.
+// Kept: `fine` and `sized` beside the values, as crate readback's TextSays and SameNonzeros name field, symmetry and numbers of any text's header.
 #[derive(Clone, Copy)]
 pub struct Header {
     pub fine: bool,
@@ -38,21 +32,11 @@ pub struct Header {
     pub next: usize,
 }
 
-// How far the entries are noted: the last line's verdict, and the number of entries before the next line.
+/// What a text holds: m rows, n columns and N nonzeros, and whether it gives a part for each of them.
 #[derive(Clone, Copy)]
-pub struct Progress {
-    pub verdict: Verdict,
-    pub count: usize,
-}
-
-// A reading's answer: sizes, and whether there are parts, or a refusal.
-#[derive(Clone, Copy)]
-pub enum ReadAnswer {
-    Read {
-        m: u64,
-        n: u64,
-        nonzeros: u64,
-        integer: bool,
-    },
-    Refused(Word, u64),
+pub struct TextRead {
+    pub m: u64,
+    pub n: u64,
+    pub nonzeros: u64,
+    pub integer: bool,
 }

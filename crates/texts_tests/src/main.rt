@@ -7,37 +7,26 @@ mod reading;
 mod saying;
 mod writings;
 
-use pattern::reading::byte_at;
-use testing::Kind;
-use testing::cases::field_at;
+use input::read_full;
+use std::io;
+use testing::cases::{Cases, each_case};
 
-// One case: prints its answer, and gives the place of the next one.
-fn case_at(cases: &[u8], at: usize) -> usize {
-    let kind = field_at(cases, at, Kind::Text, &mut []);
-    match byte_at(cases, at) {
-        b'r' => reading::read_case(cases, kind.next),
-        b'f' => reading::filled_case(cases, kind.next),
-        b'w' => writings::write_case(cases, kind.next),
-        b'b' => writings::back_case(cases, kind.next),
-        b'o' => opened::opened_case(cases, kind.next),
-        b'l' => {
-            largest::largest();
-            kind.next
-        },
-        _ => kind.next,
+// Answers a case by the first letter of its kind.
+fn answer(rt: &impl Print, kind: u8, cases: &mut Cases<'_>) -> io::Result<()> {
+    match kind {
+        b'r' => reading::read_case(rt, cases),
+        b'f' => reading::filled_case(rt, cases),
+        b'w' => writings::write_case(rt, cases),
+        b'b' => writings::back_case(rt, cases),
+        b'o' => opened::opened_case(rt, cases),
+        b'l' => largest::largest(rt),
+        _ => Ok(()),
     }
 }
 
 // Reads the cases and answers each of them in turn.
-fn main() {
-    let mut cases = [0u8; 65536];
-    let len = io::read_full(0, &mut cases);
-    let mut at: usize = 0;
-    while at < len {
-        let next = case_at(&cases, at);
-        if next <= at {
-            return;
-        }
-        at = next;
-    }
+fn main(rt: HostRuntime) -> io::Result<()> {
+    let mut page = [0u8; 65536];
+    let len = read_full(&mut rt.reader(), &mut page)?;
+    each_case(&page, len, |kind, cases| answer(&rt, kind, cases))
 }

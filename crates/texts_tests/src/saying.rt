@@ -1,53 +1,47 @@
 // Printing of answers and bytes. Each byte of a lent slice is 9 before a call.
-use testing::comparing::same_count;
-use testing::saying::{say, say_bytes, say_number, say_refused, say_which};
-use texts::ReadAnswer;
-use writing::WriteAnswer;
+use model::Refusal;
+use std::io;
+use testing::saying::{say_bytes, say_refused};
+use texts::TextRead;
 
 // Sizes, and integer where there are parts or pattern where there are none, or a refusal.
-pub(crate) fn say_read(answer: ReadAnswer) {
+pub(crate) fn say_read(rt: &impl Print, answer: Result<TextRead, Refusal>) -> io::Result<()> {
+    print!(rt; ":")?;
     match answer {
-        ReadAnswer::Read {
-            m,
-            n,
-            nonzeros,
-            integer,
-        } => {
-            say_number(b": ", m);
-            say_number(b" ", n);
-            say_number(b" ", nonzeros);
-            say_which(integer, b" integer", b" pattern");
+        Ok(
+            TextRead {
+                m,
+                n,
+                nonzeros,
+                integer,
+            },
+        ) => {
+            let field = if integer { "integer" } else { "pattern" };
+            print!(rt; " {m} {n} {nonzeros} {field}")
         }
-        ReadAnswer::Refused(word, place) => {
-            say(b":");
-            say_refused(word, place);
-        }
+        Err(refusal) => say_refused(rt, refusal),
     }
 }
 
 // The length of a text, or a refusal.
-pub(crate) fn say_written(answer: WriteAnswer) {
+pub(crate) fn say_written(rt: &impl Print, answer: Result<u64, Refusal>) -> io::Result<()> {
+    print!(rt; ":")?;
     match answer {
-        WriteAnswer::Written(len) => say_number(b": written ", len),
-        WriteAnswer::Refused(word, place) => {
-            say(b":");
-            say_refused(word, place);
-        }
+        Ok(len) => print!(rt; " written {len}"),
+        Err(refusal) => say_refused(rt, refusal),
     }
 }
 
-// Every byte of a slice of at most 200 is still 9.
+// Every byte of a slice is still 9.
 pub(crate) fn is_kept(bytes: &[u8]) -> bool {
-    let nines = [9u8; 200];
-    same_count(bytes, &nines) == bytes.len()
+    bytes.iter().all(|byte| *byte == 9)
 }
 
 // The bytes of a slice as numbers, or that it kept them all.
-pub(crate) fn say_left(words: &[u8], bytes: &[u8]) {
+pub(crate) fn say_left(rt: &impl Print, words: &str, bytes: &[u8]) -> io::Result<()> {
     if is_kept(bytes) {
-        say(words);
-        say(b" kept");
+        print!(rt; "{words} kept")
     } else {
-        say_bytes(words, bytes);
+        say_bytes(rt, words, bytes)
     }
 }

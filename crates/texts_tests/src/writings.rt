@@ -1,14 +1,28 @@
 // Splits that are written.
 use crate::reading::read_within;
 use crate::saying::{is_kept, say_written};
+use model::Refusal;
+use std::io;
 use testing::Kind;
-use testing::cases::{field_at, list_at, number_at};
+use testing::cases::Cases;
 use testing::laying::first;
-use testing::saying::{say, say_field, say_which};
+use testing::saying::say_field;
+use writing::Figures;
 use writing::write::write;
-use writing::{Figures, WriteAnswer};
 
-// A split as a case gives it: the first bytes of list and parts are lent. The next field starts at `next`.
+// The figures of document 01's sample.
+pub(crate) const SAMPLE_FIGURES: Figures = Figures {
+    volume: 0,
+    cap0: 1,
+    cap1: 1,
+    rest: 0,
+    tries: 11,
+    floor: 0,
+    complete: 1,
+};
+
+// A split as a case gives it: the first bytes of list and parts are lent.
+// Kept: rooms and lengths, as a field of a case is laid out in a page that is there: a Vec is no plainer.
 #[derive(Clone, Copy)]
 struct Split {
     m: u64,
@@ -18,117 +32,90 @@ struct Split {
     listed: usize,
     parts: [u8; 4],
     parted: usize,
-    next: usize,
 }
 
-// The split of a case.
-fn split_at(cases: &[u8], at: usize) -> Split {
-    let mut list = [0u8; 16];
-    let mut parts = [0u8; 4];
-    let m = number_at(cases, at);
-    let n = number_at(cases, m.next);
-    let nonzeros = number_at(cases, n.next);
-    let listed = list_at(cases, nonzeros.next, &mut list);
-    let parted = field_at(cases, listed.next, Kind::Numbers, &mut parts);
-    Split {
-        m: m.value,
-        n: n.value,
-        nonzeros: nonzeros.value,
-        list,
-        listed: listed.value as usize,
-        parts,
-        parted: parted.value as usize,
-        next: parted.next,
+impl Split {
+    // The split of a case.
+    fn read(cases: &mut Cases<'_>) -> Split {
+        let mut list = [0u8; 16];
+        let mut parts = [0u8; 4];
+        let m = cases.number();
+        let n = cases.number();
+        let nonzeros = cases.number();
+        let listed = cases.list(&mut list);
+        let parted = cases.field(Kind::Numbers, &mut parts);
+        Split {
+            m,
+            n,
+            nonzeros,
+            list,
+            listed,
+            parts,
+            parted,
+        }
     }
-}
 
-// A split written.
-fn write_split(split: Split, figures: Figures, out: &mut [u8]) -> WriteAnswer {
-    let list = split.list;
-    let parts = split.parts;
-    write(
-        split.m,
-        split.n,
-        split.nonzeros,
-        first(&list, split.listed),
-        first(&parts, split.parted),
-        figures,
-        out,
-    )
-}
-
-// The figures of document 01's sample.
-pub(crate) fn sample_figures() -> Figures {
-    Figures {
-        volume: 0,
-        cap0: 1,
-        cap1: 1,
-        rest: 0,
-        tries: 11,
-        floor: 0,
-        complete: 1,
+    // The split written.
+    fn write(&self, figures: Figures, out: &mut [u8]) -> Result<u64, Refusal> {
+        let list = first(&self.list, self.listed);
+        let parts = first(&self.parts, self.parted);
+        write(self.m, self.n, self.nonzeros, list, parts, figures, out)
     }
 }
 
 // A split written to the first bytes of a page.
-fn write_start(split: Split, room: usize, page: &mut [u8]) {
-    if room <= page.len() {
-        let answer = write_split(split, sample_figures(), &mut page[0..room]);
-        say_written(answer);
+fn write_start(rt: &impl Print, split: &Split, room: usize, page: &mut [u8]) -> io::Result<()> {
+    if room > page.len() {
+        return Ok(());
     }
+    say_written(rt, split.write(SAMPLE_FIGURES, &mut page[..room]))
 }
 
 // A split written to an output of a given length, at most 200 bytes, and which of its bytes stay.
-pub(crate) fn write_case(cases: &[u8], at: usize) -> usize {
-    let split = split_at(cases, say_field(cases, at));
-    let room = number_at(cases, split.next);
+pub(crate) fn write_case(rt: &impl Print, cases: &mut Cases<'_>) -> io::Result<()> {
     let mut out = [9u8; 200];
-    write_start(split, room.value as usize, &mut out);
-    let kept = is_kept(&out);
-    let kept_past = is_kept(&out[120..200]);
-    say_which(kept, b", output kept", b", output written");
-    say_which(kept_past, b", kept from 120 on", b", changed from 120 on");
-    say(b"\n");
-    room.next
+    say_field(rt, cases)?;
+    let split = Split::read(cases);
+    let room = cases.number();
+    write_start(rt, &split, room as usize, &mut out)?;
+    let output = if is_kept(&out) { "kept" } else { "written" };
+    let past = if is_kept(&out[120..]) {
+        "kept"
+    } else {
+        "changed"
+    };
+    println!(rt; ", output {output}, {past} from 120 on")
 }
 
 // The number of bytes written.
-pub(crate) fn len_of(answer: WriteAnswer) -> usize {
+pub(crate) fn len_of(answer: Result<u64, Refusal>) -> usize {
     match answer {
-        WriteAnswer::Written(len) => len as usize,
-        WriteAnswer::Refused(_, _) => 0,
+        Ok(len) => len as usize,
+        Err(_) => 0,
     }
 }
 
 // The text of a split with these figures, and the split that is read from it.
-fn write_back(split: Split, figures: Figures) {
+fn write_back(rt: &impl Print, split: &Split, figures: Figures) -> io::Result<()> {
     let mut out = [9u8; 256];
-    let answer = write_split(split, figures, &mut out);
+    let answer = split.write(figures, &mut out);
     let text = first(&out, len_of(answer));
-    say(text);
-    say(b"read back");
-    read_within(text, 16, 4);
+    rt.write_all(text)?;
+    print!(rt; "read back")?;
+    read_within(rt, text, 16, 4)
 }
 
 // A split and its figures, written and read back.
-pub(crate) fn back_case(cases: &[u8], at: usize) -> usize {
-    let split = split_at(cases, at);
-    let volume = number_at(cases, split.next);
-    let cap0 = number_at(cases, volume.next);
-    let cap1 = number_at(cases, cap0.next);
-    let rest = number_at(cases, cap1.next);
-    let tries = number_at(cases, rest.next);
-    let floor = number_at(cases, tries.next);
-    let complete = number_at(cases, floor.next);
+pub(crate) fn back_case(rt: &impl Print, cases: &mut Cases<'_>) -> io::Result<()> {
+    let split = Split::read(cases);
     let figures = Figures {
-        volume: volume.value,
-        cap0: cap0.value,
-        cap1: cap1.value,
-        rest: rest.value,
-        tries: tries.value,
-        floor: floor.value,
-        complete: complete.value,
+        volume: cases.number(),
+        cap0: cases.number(),
+        cap1: cases.number(),
+        rest: cases.number(),
+        tries: cases.number(),
+        floor: cases.number(),
+        complete: cases.number(),
     };
-    write_back(split, figures);
-    complete.next
+    write_back(rt, &split, figures)
 }

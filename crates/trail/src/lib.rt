@@ -8,7 +8,8 @@ ghost use Rattle.trail.specs.Trail.{top_of, appended, dropped, mark_or, is_part}
 pub const MARK_ROOM: usize = 600;
 
 // A marking: the mark of the line at place i is marks[i], for each i below len. Methods keep 0 in the marks past its length.
-#[derive(Clone, Copy)]
+// Kept: an array and a length, as memory is fixed, and a caller may hand in any length, which search::run refuses.
+#[derive(Clone, Copy, PartialEq, Eq)]
 pub struct Trail {
     pub marks: [u8; MARK_ROOM],
     pub len: usize,

@@ -18,19 +18,6 @@ free_as_unmarked (suc (suc (suc x))) true false h = refl
 free_as_unmarked (suc (suc (suc x))) false true h = refl
 free_as_unmarked (suc (suc (suc x))) false false h = refl
 
--- the condition of an unmarked line, by what the two tests are known to be
-pub condition_free :
-    (x : ℕ) (a b a' b' : Bool) →
-    unmarked ≤ x → a ≡ a' → b ≡ b' → condition_for x a b ≡ condition_for unmarked a' b'
-condition_free x a b a' b' h p q =
-    free_as_unmarked x a b h
-    ∙ ap (λ (z : Bool). condition_for unmarked z b) p
-    ∙ ap (λ (z : Bool). condition_for unmarked a' z) q
-
--- a number other than the three marks stands for no mark
-pub unmarked-rest : (x : ℕ) → (x ≡ 0 → ⊥) → (x ≡ 1 → ⊥) → (x ≡ 2 → ⊥) → unmarked ≤ x
-unmarked-rest x a b c = omega arith
-
 -- the condition depends on the two tests only at lines not marked 0 or 1
 pub condition_open :
     (x : ℕ) (a b a' b' : Bool) → (2 ≤ x → a ≡ a') → (2 ≤ x → b ≡ b') → condition_for x a b ≡ condition_for x a' b'

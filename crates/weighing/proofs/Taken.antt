@@ -1,14 +1,15 @@
 -- Laws of the pass that takes nonzeros: its start, one nonzero more, its end, and validity.
 -- Assumes nothing.
-use mathlib.Core.Bool.{Bool, true, false, not}
+use mathlib.Core.Bool.{Bool, true, false, ◌||◌}
 use mathlib.Core.List.{List}
-use mathlib.Core.Path.{◌≡◌, sym, ◌∙◌, ap}
+use mathlib.Core.Path.{◌≡◌, refl, sym, ◌∙◌, ap}
+use mir.Val.{bool_byte}
 use Prim.Native.Nat.{ℕ, ◌+◌, ◌≤◌}
 use native.Mathlib.Omega.{arith}
-use lib.Dec.{eqb, leb}
+use lib.Dec.{eqb}
 use Rattle.counting.specs.Tests.{◌and◌, ◌or◌, bit}
 use Rattle.counting.specs.Sums.{count, any}
-use Rattle.counting.proofs.Joined.{no_way, and_fails_left}
+use Rattle.counting.proofs.Joined.{no_way, and_passed, and_fails_left, or_left, or_passed}
 use Rattle.counting.proofs.Counted.{count_most, count_none, count-more, any_none, any-more}
 use Rattle.model.specs.declared.Part.{Part}
 use Rattle.model.specs.declared.Part.TheVariants.{Zero, One}
@@ -20,14 +21,28 @@ use Rattle.weighing.specs.declared.taking.Taken.{Taken}
 use Rattle.weighing.specs.Cells.{marking_in}
 use Rattle.weighing.specs.Taking.{TakenOf, valid_by}
 
--- a nonzero is taken, by the bytes of its row and column
+-- a nonzero is taken, by the lines of its row and column
 pub takes_code :
     (m n nonzeros : ℕ) (list marks : List ℕ) (p : Part) (t row column part : ℕ) (r : Bool) →
-    row ≡ row_in list t → column ≡ column_in list t → part ≡ part_number p →
-    r ≡ eqb (marking_in marks row) part or eqb (marking_in marks (m + column)) part →
+    row ≡ row_in list t → column ≡ m + column_in list t → part ≡ part_number p →
+    r ≡ eqb (marking_in marks row) part or eqb (marking_in marks column) part →
     r ≡ takes (pattern_of m n nonzeros list) (marking_in marks) p t
 unfolding takes pattern_of row_line column_line
 takes_code m n nonzeros list marks p t row column part r a b k e = e ∙ rw (a, b, k)
+
+-- a test as the code adds it, and two that it joins
+pub byte_bit : (b : Bool) → bool_byte b ≡ bit b
+unfolding bit
+byte_bit true = refl
+byte_bit false = refl
+
+pub either_or : (a b : Bool) → a || b ≡ a or b
+unfolding ◌or◌
+either_or true b = refl
+either_or false b = refl
+
+-- tests that the code joins, and one that it adds
+pub ruleset joins = (and_passed, and_fails_left, or_left, or_passed, byte_bit)
 
 -- what a pass over the first t nonzeros has found
 pub record TakenTo (P : Pattern) (μ : Marking) (t zero one : ℕ) (both : Bool) : Type 0 where
@@ -80,16 +95,3 @@ pub valid-by :
     {P : Pattern} {μ : Marking} {r : Taken} (caps : Caps) → TakenOf P μ r → valid_by r caps ≡ valid P caps μ
 unfolding valid_by valid
 valid-by caps k = rw (k.zero_is, k.one-is, k.both_is)
-
--- where some nonzero is taken by both, the marking is not valid
-pub valid_both : (r : Taken) (caps : Caps) → r.both ≡ true → valid_by r caps ≡ false
-unfolding valid_by
-valid_both r caps h =
-    and_fails_left (leb r.one caps.cap1) (and_fails_left (leb r.zero caps.cap0) (ap not h))
-
--- else validity is a matter of the two counts
-pub valid-apart :
-    (r : Taken) (caps : Caps) (fits : Bool) →
-    r.both ≡ false → fits ≡ leb r.zero caps.cap0 and leb r.one caps.cap1 → fits ≡ valid_by r caps
-unfolding valid_by ◌and◌
-valid-apart r caps fits h e = e ∙ rw h

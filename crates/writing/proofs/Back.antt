@@ -1,6 +1,7 @@
 -- Lines that were written are read back: where they end, and the three numbers that they hold.
 -- Assumes nothing.
 use mathlib.Core.Bool.{Bool, true, false, not}
+use Rattle.std.specs.Prelude.{Some}
 use mathlib.Core.List.{List, [], ◌∷◌, ◌++◌, append_assoc}
 use mathlib.Core.Path.{◌≡◌, refl, sym, ◌∙◌, ap}
 use Prim.Native.Nat.{ℕ, ◌+◌, ◌-◌, ◌^◌, ◌≤◌, ◌<◌}
@@ -16,7 +17,7 @@ use Rattle.scanning.specs.declared.Stretch.TheVariants.{Line, Blanks, Nonblanks}
 use Rattle.scanning.specs.declared.Field.TheVariants.{Integer}
 use Rattle.scanning.specs.Classes.{between, class_of, stretches_over, is_blank}
 use Rattle.scanning.specs.Lines.{stretches_at, stretch_end, line_stop, has_return, line_end, line_next}
-use Rattle.scanning.specs.Words.{number_at, ends_at, numbers_at}
+use Rattle.scanning.specs.Words.{number_at, ends_at, all_three, numbers_at}
 use Rattle.scanning.proofs.Scans.{stretch_here, stretch_over, stretch_on, end_without, next_more}
 use Rattle.writing.specs.Written.{decimals, number_text, sizes_text}
 use Rattle.writing.proofs.Decimals.{decimals-some}
@@ -125,14 +126,14 @@ byte_after {text} {at} s b h =
 -- a number with a space after it is read back, from its first digit on and from blanks before it
 number_spaced :
     (text : List ℕ) (at end from n : ℕ) → stretch_end Blanks text at end ≡ from → Holds text from (decimals 20 n ++ (32 ∷ [])) → n < 10 ^ 9 →
-    from + length (decimals 20 n) ≤ end → number_at text at end ≡ (record { fine = true; value = n; stop = from + length (decimals 20 n) })
+    from + length (decimals 20 n) ≤ end → number_at text at end ≡ (record { value = Some n; stop = from + length (decimals 20 n) })
 number_spaced text at end from n blanks held small inside =
     number-back text at end from n blanks (holds-left (decimals 20 n) (32 ∷ []) held) small inside
     (stops_here Nonblanks text (from + length (decimals 20 n)) end 32 (byte_after (decimals 20 n) 32 held) (ap (stretches_over Nonblanks) space_class))
 
 pub number-first :
     (text : List ℕ) (at end n : ℕ) → Holds text at (decimals 20 n ++ (32 ∷ [])) → n < 10 ^ 9 →
-    at + length (decimals 20 n) ≤ end → number_at text at end ≡ (record { fine = true; value = n; stop = at + length (decimals 20 n) })
+    at + length (decimals 20 n) ≤ end → number_at text at end ≡ (record { value = Some n; stop = at + length (decimals 20 n) })
 number-first text at end n held small inside =
     number_spaced text at end at n (digit_first text at n end (holds-left (decimals 20 n) (32 ∷ []) held)) held small inside
 
@@ -184,12 +185,12 @@ module _
       (holds_right (decimals 20 b ++ (32 ∷ [])) (decimals 20 c) held_rest)
 
   first-number :
-      number_at text at (line_over at a b c) ≡ (record { fine = true; value = a; stop = at + length (decimals 20 a) })
+      number_at text at (line_over at a b c) ≡ (record { value = Some a; stop = at + length (decimals 20 a) })
   first-number = number-first text at (line_over at a b c) a held_first sa (omega arith)
 
   second-number :
       number_at text (at + length (decimals 20 a)) (line_over at a b c)
-      ≡ (record { fine = true; value = b; stop = second at a + length (decimals 20 b) })
+      ≡ (record { value = Some b; stop = second at a + length (decimals 20 b) })
   second-number =
       number_spaced
       text
@@ -205,7 +206,7 @@ module _
 
   third-number :
       number_at text (second at a + length (decimals 20 b)) (line_over at a b c)
-      ≡ (record { fine = true; value = c; stop = line_over at a b c })
+      ≡ (record { value = Some c; stop = line_over at a b c })
   third-number =
       number-back
       text
@@ -226,8 +227,8 @@ module _
 
   -- the three numbers are read back
   pub three_back :
-      numbers_at text at (line_over at a b c) Integer ≡ (record { fine = true; first = a; second = b; third = c })
-  unfolding numbers_at ◌and◌
+      numbers_at text at (line_over at a b c) Integer ≡ Some (record { first = a; second = b; third = c })
+  unfolding numbers_at all_three pick
   three_back = rw (first-number, second-number, third-number, line_over_lem)
 
   -- and the line is not empty

@@ -36,15 +36,15 @@ pub decimals-some : (k n : ℕ) → 1 ≤ length (decimals (suc k) n)
 decimals-some k n =
     decimals_either (λ x. 1 ≤ length x) k n (λ l. omega arith) (λ l. omega (arith, digit_after (decimals k (n / 10)) (48 + n % 10)))
 
-pub decimals-short : (k n : ℕ) → length (decimals k n) ≤ k
-decimals-short zero n = omega (arith, ap length (decimals-zero n))
-decimals-short (suc k) n =
+pub decimals_short : (k n : ℕ) → length (decimals k n) ≤ k
+decimals_short zero n = omega (arith, ap length (decimals-zero n))
+decimals_short (suc k) n =
     decimals_either
     (λ x. length x ≤ suc k)
     k
     n
     (λ l. omega arith)
-    (λ l. omega (arith, digit_after (decimals k (n / 10)) (48 + n % 10), decimals-short k (n / 10)))
+    (λ l. omega (arith, digit_after (decimals k (n / 10)) (48 + n % 10), decimals_short k (n / 10)))
 
 -- a number below a power of ten has no more digits
 pub decimals_fit : (k j n : ℕ) → n < 10 ^ suc j → length (decimals k n) ≤ suc j
@@ -81,11 +81,12 @@ decimals_reach k j n l r =
     no_way (omega (arith, decimals_below k n l)))
 
 -- digits counted one by one, with the power of ten of those counted
-module _ (n count power : ℕ) (p : power ≡ 10 ^ count) where
-  pub count-more : n < 10 ^ 20 → power ≤ n → count + 1 ≤ length (decimals 20 n)
-  count-more l r = omega (arith, decimals_reach 20 count n l (rw p at r))
+pub digit_more : (n count : ℕ) → n < 10 ^ 20 → 10 ^ count ≤ n → count + 1 ≤ length (decimals 20 n)
+digit_more n count l r = omega (arith, decimals_reach 20 count n l r)
 
-  pub count_stops : 1 ≤ count → count ≤ length (decimals 20 n) → n < power → count ≡ length (decimals 20 n)
-  count_stops some l b =
-      let e : suc (count - 1) ≡ count = omega arith in
-      omega (arith, decimals_fit 20 (count - 1) n (rw (e, ← p) b))
+pub digit_last : (n count : ℕ) → 1 ≤ count → count ≤ length (decimals 20 n) → n < 10 ^ count → count ≡ length (decimals 20 n)
+digit_last n count some l b =
+    let e : suc (count - 1) ≡ count = omega arith in
+    omega (arith, decimals_fit 20 (count - 1) n (rw e b))
+
+pub ruleset digits = (arith, decimals-some, decimals_short, digit_more, digit_last)

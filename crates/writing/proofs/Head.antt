@@ -12,7 +12,7 @@ use Rattle.counting.proofs.Joined.{or_fails, and_fails_right}
 use Rattle.scanning.specs.declared.Field.TheVariants.{Integer}
 use Rattle.scanning.specs.Classes.{class_of, is_percent}
 use Rattle.scanning.specs.Lines.{is_comment, skipped, size_line_at}
-use Rattle.scanning.proofs.Scans.{size-here}
+use Rattle.scanning.proofs.Scans.{size_here}
 use Rattle.texts.specs.Header.{header_of}
 use Rattle.writing.specs.declared.Figures.{Figures}
 use Rattle.writing.specs.Written.{decimals, number_text, sizes_text, #first-line, comment_text, entries_text, head_text, body_text, text_of}
@@ -81,7 +81,7 @@ module _ (f : Figures) (m n nonzeros : ℕ) (entries : List ℕ) (sm : m < 10 ^ 
   size_line_lem : size_line_at (laid_out f m n nonzeros entries) (length (laid_out f m n nonzeros entries)) 49 ≡ size_at f
   size_line_lem =
       comment_skipped (laid_out f m n nonzeros entries) f 49 (holds-left (comment_text f) (sizes_text m n nonzeros ++ entries) below) (omega (arith, text-length))
-      ∙ size-here (laid_out f m n nonzeros entries) (length (laid_out f m n nonzeros entries)) (size_at f) not-skipped
+      ∙ size_here (laid_out f m n nonzeros entries) (length (laid_out f m n nonzeros entries)) (size_at f) not-skipped
 
   -- the header of a written text
   pub header_back :

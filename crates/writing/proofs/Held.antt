@@ -1,6 +1,7 @@
 -- What a text holds from a place on, and how stretches and numbers go over it: the ground for reading back what was written.
 -- Assumes nothing.
 use mathlib.Core.Bool.{Bool, true}
+use Rattle.std.specs.Prelude.{Some}
 use mathlib.Core.List.{List, [], ◌∷◌, ◌++◌}
 use mathlib.Core.Path.{◌≡◌, refl, sym, ◌∙◌, ap}
 use Prim.Native.Nat.{ℕ, zero, suc, ◌+◌, ◌-◌, ◌/◌, ◌%◌, ◌^◌, ◌≤◌, ◌<◌}
@@ -16,8 +17,9 @@ use Rattle.scanning.specs.declared.Stretch.{Stretch}
 use Rattle.scanning.specs.declared.Stretch.TheVariants.{Blanks, Nonblanks, Digits}
 use Rattle.scanning.specs.Classes.{class_of, stretches_over, digit_of}
 use Rattle.scanning.specs.Lines.{stretches_at, stretch_end}
-use Rattle.scanning.specs.Words.{is_number, value_of, number_value, word_at, number_at}
-use Rattle.scanning.proofs.Scans.{between_in, stretch_on, stretch_over, value_some}
+use Rattle.scanning.specs.Words.{is_number, value_of, number_between, word_at, number_at}
+use Rattle.scanning.proofs.Bytes.{between_in}
+use Rattle.scanning.proofs.Scans.{stretch_on, stretch_over, number_found}
 use Rattle.writing.specs.Written.{decimals}
 use Rattle.writing.proofs.Decimals.{decimals-some, decimals_fit, decimals_below}
 use Rattle.writing.proofs.Padded.{padded, length-padded, decimals-padded}
@@ -158,15 +160,13 @@ module _
       (lt-ltb from (from + len) (omega arith))
       (and_intro (le-leb (from + len - from) 9 (omega arith)) (eq-eqb (stretch_end Digits text from (from + len)) (from + len) digits))
 
-  its_value : number_value text from (from + length (decimals 20 n)) ≡ n
+  its_value : number_between text from (from + length (decimals 20 n)) ≡ Some n
   its_value =
       let len = length (decimals 20 n) in
       let e : from + len - from ≡ len = omega arith in
       let big : n < 10 ^ 20 = omega arith in
-      value_some text from (from + len) is-number ∙ ap (value_of text from) e ∙ value_written text from 20 n held big
+      number_found text from (from + len) is-number ∙ ap (λ k. Some (value_of text from k)) e ∙ ap Some (value_written text from 20 n held big)
 
-  pub number-back :
-      number_at text at end ≡ (record { fine = true; value = n; stop = from + length (decimals 20 n) })
+  pub number-back : number_at text at end ≡ (record { value = Some n; stop = from + length (decimals 20 n) })
   unfolding number_at word_at
-  number-back =
-      rw (blanks, stops, is-number, its_value)
+  number-back = rw (blanks, stops, its_value)

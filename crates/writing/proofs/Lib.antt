@@ -1,6 +1,7 @@
 pub mod Decimals
 pub mod Padded
 pub mod Powers
+pub mod Pages
 pub mod Puttings
 pub mod Answers
 pub mod Held
@@ -8,4 +9,3 @@ pub mod Back
 pub mod Top
 pub mod Rows
 pub mod Head
-pub mod Lines

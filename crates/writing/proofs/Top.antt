@@ -15,7 +15,7 @@ use Rattle.scanning.specs.declared.Stretch.TheVariants.{Line}
 use Rattle.scanning.specs.Classes.{between, class_of, small_letter, cased, stretches_over, is_percent}
 use Rattle.scanning.specs.Lines.{past, stretches_at, stretch_end, line_end, line_next, empty_line, is_comment, skipped, size_line_at}
 use Rattle.scanning.specs.Words.{word_at, spells, same_word, ends_at}
-use Rattle.scanning.proofs.Scans.{size-on}
+use Rattle.scanning.proofs.Scans.{size_on}
 use Rattle.texts.specs.Header.{field_at, banner_at}
 use Rattle.writing.specs.declared.Figures.{Figures}
 use Rattle.writing.specs.Written.{decimals, number_text, figure_text, #volume, #caps, #rest, #tries, #floor, caps_text, figures_text, #stopped, #complete, #first-line, ending_text, comment_text}
@@ -142,5 +142,5 @@ pub comment_skipped :
     (text : List ℕ) (f : Figures) (at : ℕ) → Holds text at (comment_text f) → at + length (comment_body f) < length text →
     size_line_at text (length text) at ≡ size_line_at text (length text) (at + length (comment_body f) + 1)
 comment_skipped text f at held room =
-    size-on text at (comment_first text f at held room)
+    size_on text at (comment_first text f at held room)
     ∙ ap (size_line_at text (length text)) (next-back text (comment_body f) at (holds_as (comment_body_lem f) held) (comment_plain f) room)

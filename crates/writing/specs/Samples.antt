@@ -1,24 +1,23 @@
 -- Worked samples of the writer: document 01's text with both caps and its rest, read back, and refusals.
 -- Assumes nothing.
-use Rattle.std.specs.Prelude.{true, List, [], ◌∷◌, ◌++◌, ◌≡◌, refl, ℕ, length, replicate}
+use Rattle.std.specs.Prelude.{Ok, true, List, [], ◌∷◌, ◌++◌, ◌≡◌, refl, ℕ, length, replicate}
 use Rattle.counting.specs.Tests.{◌and◌, ◌or◌, pick}
 use Rattle.model.specs.declared.Word.TheVariants.{OffMatrix, BadPart, ShortBuffer, Order, SplitNumber}
-use Rattle.model.specs.Refusal.{given, refusal, refuse, ◌then◌, each_verdict}
+use Rattle.model.specs.Refusal.{refused, each_verdict}
 use Rattle.model.specs.Pattern.{low_in, high_in, number_in, row_in, column_in, list_of}
 use Rattle.model.specs.Calls.{outside, sizes_verdict, rises, split_number, off_matrix, entry_verdict}
 use Rattle.pattern.specs.Measures.{part_verdict}
-use Rattle.texts.specs.declared.ReadAnswer.TheVariants as read_answer
+use Rattle.texts.specs.Reading.{read_as}
 use Rattle.texts.specs.Reading.{read_call, read_list, read_parts}
 use Rattle.texts.specs.Computing.{computing}
 use Rattle.writing.specs.declared.Figures.{Figures}
-use Rattle.writing.specs.declared.WriteAnswer.TheVariants as write-answer
 use Rattle.writing.specs.Written.{decimals, number_text, figure_text, caps_text, figures_text, ending_text, comment_text, sizes_text, entry_text, entries_text, head_text, body_text, text_of}
 use Rattle.writing.specs.Lines.{none_text}
-use Rattle.writing.specs.Writing.{nonzero_verdict, write_verdict, length_answer, text_out, answer_written, out_written, write_call, write_out, write_reply}
+use Rattle.writing.specs.Writing.{nonzero_verdict, write_verdict, length_answer, text_out, out_written, write_call, write_out, write_reply}
 
 -- to unfold this is to unfold every definition that a writing computes with
 calling : Type 0
-unfolding write_call write_out write_verdict nonzero_verdict length_answer text_out answer_written out_written text_of head_text body_text entries_text entry_text sizes_text comment_text ending_text figures_text caps_text figure_text number_text decimals each_verdict part_verdict entry_verdict split_number off_matrix rises low_in high_in number_in row_in column_in refuse ◌then◌ sizes_verdict outside ◌and◌ ◌or◌ pick
+unfolding write_call write_out write_verdict nonzero_verdict length_answer text_out out_written text_of head_text body_text entries_text entry_text sizes_text comment_text ending_text figures_text caps_text figure_text number_text decimals each_verdict part_verdict entry_verdict split_number off_matrix rises low_in high_in number_in row_in column_in sizes_verdict outside ◌and◌ ◌or◌ pick
 calling = Unit
 
 -- the 2 by 2 diagonal, with its nonzeros in different parts, and the figures of document 01's sample
@@ -39,7 +38,7 @@ printed = 37 ∷ 37 ∷ 77 ∷ 97 ∷ 116 ∷ 114 ∷ 105 ∷ 120 ∷ 77 ∷ 97 
 abbrev paper : List ℕ
 paper = replicate 121 7
 
-written : write_call 2 2 2 diagonal apart figures paper ≡ write-answer.Written 120
+written : write_call 2 2 2 diagonal apart figures paper ≡ Ok 120
 unfolding calling
 written = refl
 
@@ -49,7 +48,7 @@ unfolding calling
 written_out = refl
 
 -- it is read back
-back : read_call printed diagonal apart ≡ read_answer.Read 2 2 2 true
+back : read_call printed diagonal apart ≡ read_as 2 2 2 true
 unfolding computing
 back = refl
 
@@ -85,51 +84,49 @@ unfolding number_text decimals pick
 longest = refl
 
 -- 9 for the output comes last
-no_room : write_call 2 2 2 diagonal apart figures (7 ∷ []) ≡ write-answer.Refused ShortBuffer 0
+no_room : write_call 2 2 2 diagonal apart figures (7 ∷ []) ≡ refused ShortBuffer 0
 unfolding calling
 no_room = refl
 
 -- 17 of a nonzero comes before its 5, 10 and 8: (0, 512) in a 2 by 2 matrix, after (1, 0), with part byte 2
-split-first : write_call 2 2 2 (list_of (1 ∷ 0 ∷ 0 ∷ 512 ∷ [])) (0 ∷ 2 ∷ []) figures [] ≡ write-answer.Refused SplitNumber 1
+split-first : write_call 2 2 2 (list_of (1 ∷ 0 ∷ 0 ∷ 512 ∷ [])) (0 ∷ 2 ∷ []) figures [] ≡ refused SplitNumber 1
 unfolding calling
 split-first = refl
 
 -- a row of 512 is a split number too, and 511 is outside alone, which comes before 8
-split_row : write_call 2 2 1 (list_of (512 ∷ 0 ∷ [])) (2 ∷ []) figures [] ≡ write-answer.Refused SplitNumber 0
+split_row : write_call 2 2 1 (list_of (512 ∷ 0 ∷ [])) (2 ∷ []) figures [] ≡ refused SplitNumber 0
 unfolding calling
 split_row = refl
 
-off_first : write_call 2 2 1 (list_of (511 ∷ 511 ∷ [])) (2 ∷ []) figures [] ≡ write-answer.Refused OffMatrix 0
+off_first : write_call 2 2 1 (list_of (511 ∷ 511 ∷ [])) (2 ∷ []) figures [] ≡ refused OffMatrix 0
 unfolding calling
 off_first = refl
 
 -- 8 of a nonzero comes before 17 and 10 of the next
-part_first : write_call 2 2 2 (list_of (0 ∷ 1 ∷ 0 ∷ 512 ∷ [])) (2 ∷ 0 ∷ []) figures [] ≡ write-answer.Refused BadPart 0
+part_first : write_call 2 2 2 (list_of (0 ∷ 1 ∷ 0 ∷ 512 ∷ [])) (2 ∷ 0 ∷ []) figures [] ≡ refused BadPart 0
 unfolding calling
 part_first = refl
 
-part_before_order : write_call 2 2 2 (list_of (0 ∷ 1 ∷ 0 ∷ 0 ∷ [])) (2 ∷ 0 ∷ []) figures [] ≡ write-answer.Refused BadPart 0
+part_before_order : write_call 2 2 2 (list_of (0 ∷ 1 ∷ 0 ∷ 0 ∷ [])) (2 ∷ 0 ∷ []) figures [] ≡ refused BadPart 0
 unfolding calling
 part_before_order = refl
 
-unsorted : write_call 2 2 2 (list_of (0 ∷ 1 ∷ 0 ∷ 0 ∷ [])) (1 ∷ 2 ∷ []) figures [] ≡ write-answer.Refused Order 1
+unsorted : write_call 2 2 2 (list_of (0 ∷ 1 ∷ 0 ∷ 0 ∷ [])) (1 ∷ 2 ∷ []) figures [] ≡ refused Order 1
 unfolding calling
 unsorted = refl
 
 -- 9 for the parts, and for a list under four bytes an entry, comes before the checks of the nonzeros
-short_parts : write_call 2 2 2 (list_of (5 ∷ 5 ∷ 5 ∷ 5 ∷ [])) (1 ∷ []) figures [] ≡ write-answer.Refused ShortBuffer 0
+short_parts : write_call 2 2 2 (list_of (5 ∷ 5 ∷ 5 ∷ 5 ∷ [])) (1 ∷ []) figures [] ≡ refused ShortBuffer 0
 unfolding calling
 short_parts = refl
 
-short_list : write_call 2 2 2 (replicate 7 5) apart figures [] ≡ write-answer.Refused ShortBuffer 0
+short_list : write_call 2 2 2 (replicate 7 5) apart figures [] ≡ refused ShortBuffer 0
 unfolding calling
 short_list = refl
 
 -- what a writing replies in numbers: the text's length
-written_reply : write_reply (write-answer.Written 120) ≡ record { number = 0; place = 0; values = 120 ∷ [] }
-unfolding write_reply given
+written_reply : write_reply (Ok 120) ≡ record { number = 0; place = 0; values = 120 ∷ [] }
 written_reply = refl
 
-unsorted_reply : write_reply (write-answer.Refused Order 1) ≡ record { number = 10; place = 1; values = [] }
-unfolding write_reply refusal
+unsorted_reply : write_reply (refused Order 1) ≡ record { number = 10; place = 1; values = [] }
 unsorted_reply = refl

@@ -1,18 +1,15 @@
 -- Document 01, 'Refusal table' and 'Texts': what the writer answers and leaves in its output, for any values.
 -- Assumes nothing.
-use Rattle.std.specs.Prelude.{List, [], ◌∷◌, ℕ, ◌*◌, ltb, length}
+use Rattle.std.specs.Prelude.{List, [], ◌∷◌, ℕ, ◌*◌, ltb, length, Result, Ok, Err}
 use Rattle.std.proofs.lemmas.List.Edits.{sets}
 use Rattle.counting.specs.Tests.{◌or◌, pick}
 use Rattle.model.specs.declared.Word.TheVariants.{ShortBuffer}
-use Rattle.model.specs.declared.Verdict.{Verdict}
-use Rattle.model.specs.declared.Verdict.TheVariants.{Accepted, Refused}
-use Rattle.model.specs.Refusal.{Reply, given, refusal, reply_after, refuse, ◌then◌, each_verdict}
+use Rattle.model.specs.declared.Refusal.{Refusal}
+use Rattle.model.specs.Refusal.{Verdict, Reply, given, reply_after, answer_reply, refuse, ◌then◌, each_verdict}
 use Rattle.model.specs.Pattern.{entry_bytes}
 use Rattle.model.specs.Calls.{sizes_verdict, entry_verdict}
 use Rattle.pattern.specs.Measures.{part_verdict}
 use Rattle.writing.specs.declared.Figures.{Figures}
-use Rattle.writing.specs.declared.WriteAnswer.{WriteAnswer}
-use Rattle.writing.specs.declared.WriteAnswer.TheVariants as write-answer
 use Rattle.writing.specs.Written.{text_of}
 
 -- 17, 5, 10, 8: the checks of a nonzero
@@ -27,28 +24,22 @@ write_verdict m n nonzeros list parts =
     then each_verdict (nonzero_verdict m n list parts) nonzeros)
 
 -- last 9 for its output; otherwise the text's length
-unfoldable pub length_answer : List ℕ → List ℕ → WriteAnswer
-length_answer text out =
-    pick (ltb (length out) (length text)) (write-answer.Refused ShortBuffer 0) (write-answer.Written (length text))
+unfoldable pub length_answer : List ℕ → List ℕ → Result ℕ Refusal
+length_answer text out = refuse (ltb (length out) (length text)) ShortBuffer 0 then Ok (length text)
 
 -- the output: the text, and the bytes past it as they were
 unfoldable pub text_out : List ℕ → List ℕ → List ℕ
 text_out text out = pick (ltb (length out) (length text)) out (sets out 0 text)
 
--- what the writer answers, after this verdict
-unfoldable pub answer_written : Verdict → List ℕ → List ℕ → WriteAnswer
-answer_written Accepted text out = length_answer text out
-answer_written (Refused word place) text out = write-answer.Refused word place
-
 -- the output after this verdict
 unfoldable pub out_written : Verdict → List ℕ → List ℕ → List ℕ
-out_written Accepted text out = text_out text out
-out_written (Refused word place) text out = out
+out_written (Ok _) text out = text_out text out
+out_written (Err refusal) text out = out
 
 -- what the writer answers
-unfoldable pub write_call : ℕ → ℕ → ℕ → List ℕ → List ℕ → Figures → List ℕ → WriteAnswer
+unfoldable pub write_call : ℕ → ℕ → ℕ → List ℕ → List ℕ → Figures → List ℕ → Result ℕ Refusal
 write_call m n nonzeros list parts f out =
-    answer_written (write_verdict m n nonzeros list parts) (text_of m n nonzeros list parts f) out
+    write_verdict m n nonzeros list parts then length_answer (text_of m n nonzeros list parts f) out
 
 -- the output's bytes after a writing
 unfoldable pub write_out : ℕ → ℕ → ℕ → List ℕ → List ℕ → Figures → List ℕ → List ℕ
@@ -56,9 +47,8 @@ write_out m n nonzeros list parts f out =
     out_written (write_verdict m n nonzeros list parts) (text_of m n nonzeros list parts f) out
 
 -- the number and values of each case of an answer: the text's length
-unfoldable pub write_reply : WriteAnswer → Reply
-write_reply (write-answer.Written len) = given (len ∷ [])
-write_reply (write-answer.Refused word place) = refusal word place
+abbrev pub write_reply : Result ℕ Refusal → Reply
+write_reply = answer_reply (λ len. given (len ∷ []))
 
 -- what a writing replies: the text's length; last of the checks is 9 for its output
 unfoldable pub write_replies : ℕ → ℕ → ℕ → List ℕ → List ℕ → Figures → List ℕ → Reply

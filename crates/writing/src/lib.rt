@@ -1,12 +1,11 @@
 // Writing a split as a Matrix Market text.
 #![tactic(auto)]
 
-use model::Word;
-
 pub mod checks;
 pub mod write;
 
 // The figures of the comment: rest is 0 for caps given directly, and complete is 0 for "stopped" and anything else for "complete".
+// Kept: `complete` is a number, as the contract of `write` takes any that a caller hands in.
 #[derive(Clone, Copy)]
 pub struct Figures {
     pub volume: u64,
@@ -16,11 +15,4 @@ pub struct Figures {
     pub tries: u64,
     pub floor: u64,
     pub complete: u64,
-}
-
-// A writing's answer: the text's length, or a refusal.
-#[derive(Clone, Copy)]
-pub enum WriteAnswer {
-    Written(u64),
-    Refused(Word, u64),
 }

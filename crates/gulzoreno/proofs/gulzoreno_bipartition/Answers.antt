@@ -1,21 +1,27 @@
 -- `gulzoreno::gulzoreno_bipartition` meets its contract.
 -- Assumes nothing.
+use mathlib.Core.Path.{refl, sym, ◌∙◌}
 use Rattle.model.specs.Split.{caps_of}
+use Rattle.model.proofs.Theorems.Checks.{refused_by}
+use Rattle.gulzoreno.specs.Host.{host_code_after, host_parts_after, host_figures_after, bipartition_code, bipartition_parts, bipartition_figures}
+use Rattle.gulzoreno.proofs.Answers.{taken}
 use Rattle.gulzoreno.proofs.Places.{host_place}
-use Rattle.gulzoreno.proofs.Answers.{accepted_code, accepted_parts, accepted_figures, stopped, stopped_code, stopped_parts, stopped_figures}
 use Rattle.gulzoreno.proofs.gulzoreno_bipartition.Goals as goal
 
 pub refusal_code-requires : goal.refusal_code-requires
 refusal_code-requires c =
     let a = c.args in
-    host_place a.m a.n a.nonzeros a.list.now (caps_of a.cap0 a.cap1) a.budget a.parts.now a.figures.now (stopped a.m a.n a.nonzeros a.list.now (caps_of a.cap0 a.cap1) a.budget a.parts.now a.figures.now _ c.open-opened.ensures.answer _ _ c.output_verdict-later.ensures c.and_then-verdict.ensures _ _ c.in-Refused.is)
+    host_place a.m a.n a.nonzeros a.list.now (caps_of a.cap0 a.cap1) a.budget a.parts.now a.figures.now (refused_by _ _ (sym c.opened.ensures ∙ c.in-Err.is))
 
-pub returns-in-Accepted : goal.returns-in-Accepted
-returns-in-Accepted c =
-    let a = c.args in
-    let fine = c.in-Accepted.is in record { answer = accepted_code a.m a.n a.nonzeros a.list.now (caps_of a.cap0 a.cap1) a.budget a.parts.now a.figures.now _ c.open-opened.ensures.answer _ _ c.output_verdict-later.ensures c.and_then-verdict.ensures fine _ c.run_and_show.ensures.answer; parts = accepted_parts a.m a.n a.nonzeros a.list.now (caps_of a.cap0 a.cap1) a.budget a.parts.now a.figures.now _ c.open-opened.ensures.answer _ _ c.output_verdict-later.ensures c.and_then-verdict.ensures fine _ c.run_and_show.ensures.parts; figures = accepted_figures a.m a.n a.nonzeros a.list.now (caps_of a.cap0 a.cap1) a.budget a.parts.now a.figures.now _ c.open-opened.ensures.answer _ _ c.output_verdict-later.ensures c.and_then-verdict.ensures fine _ c.run_and_show.ensures.figures }
+pub returns-in-Ok : goal.returns-in-Ok
+unfolding bipartition_code bipartition_parts bipartition_figures host_code_after host_parts_after host_figures_after
+returns-in-Ok c =
+    let p = taken _ _ _ _ _ _ _ _ (sym c.opened.ensures ∙ c.in-Ok.is) in
+    let r = c.run_and_show.ensures in
+    record { answer = rw (p.0, p.1) r.answer; parts = rw (p.0, p.1) r.parts; figures = rw (p.0, p.1) r.figures }
 
-pub returns-in-Refused : goal.returns-in-Refused
-returns-in-Refused c =
-    let a = c.args in
-    let e = c.in-Refused.is in record { answer = stopped_code a.m a.n a.nonzeros a.list.now (caps_of a.cap0 a.cap1) a.budget a.parts.now a.figures.now _ c.open-opened.ensures.answer _ _ c.output_verdict-later.ensures c.and_then-verdict.ensures _ _ e _ c.refusal_code.ensures; parts = stopped_parts a.m a.n a.nonzeros a.list.now (caps_of a.cap0 a.cap1) a.budget a.parts.now a.figures.now _ c.open-opened.ensures.answer _ _ c.output_verdict-later.ensures c.and_then-verdict.ensures _ _ e; figures = stopped_figures a.m a.n a.nonzeros a.list.now (caps_of a.cap0 a.cap1) a.budget a.parts.now a.figures.now _ c.open-opened.ensures.answer _ _ c.output_verdict-later.ensures c.and_then-verdict.ensures _ _ e }
+pub returns-in-Err : goal.returns-in-Err
+unfolding bipartition_code bipartition_parts bipartition_figures host_code_after host_parts_after host_figures_after
+returns-in-Err c =
+    let p = refused_by _ _ (sym c.opened.ensures ∙ c.in-Err.is) in
+    record { answer = rw p c.refusal_code.ensures; parts = rw p refl; figures = rw p refl }

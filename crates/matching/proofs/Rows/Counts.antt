@@ -185,7 +185,7 @@ module _
   where
     -- the sum is the start of the next row
     pub sum_is :
-        get_or starts i 0 + get_or starts (i + 1) 0 ≡ row_start (pattern_of 0 0 nonzeros list) (i + 1)
+        get_or starts (i + 1) 0 + get_or starts i 0 ≡ row_start (pattern_of 0 0 nonzeros list) (i + 1)
     sum_is =
         omega (
           arith,
@@ -196,21 +196,21 @@ module _
 
     pub sum_done :
         (k : ℕ) → k ≤ i + 1 →
-        get_or (set starts (i + 1) (get_or starts i 0 + get_or starts (i + 1) 0)) k 0
+        get_or (set starts (i + 1) (get_or starts (i + 1) 0 + get_or starts i 0)) k 0
         ≡ row_start (pattern_of 0 0 nonzeros list) k
     sum_done k h =
         ⊎_elim
-        (λ q. ap (λ (k : ℕ). get_or (set starts (i + 1) (get_or starts i 0 + get_or starts (i + 1) 0)) k 0) q
-        ∙ get_or-set_same starts (i + 1) (get_or starts i 0 + get_or starts (i + 1) 0) 0 (omega arith)
+        (λ q. ap (λ (k : ℕ). get_or (set starts (i + 1) (get_or starts (i + 1) 0 + get_or starts i 0)) k 0) q
+        ∙ get_or-set_same starts (i + 1) (get_or starts (i + 1) 0 + get_or starts i 0) 0 (omega arith)
         ∙ sum_is
         ∙ ap (row_start (pattern_of 0 0 nonzeros list)) (sym q))
-        (λ l. get_or-set_other starts (i + 1) k (get_or starts i 0 + get_or starts (i + 1) 0) 0 (λ q. no_way (omega arith))
+        (λ l. get_or-set_other starts (i + 1) k (get_or starts (i + 1) 0 + get_or starts i 0) 0 (λ q. no_way (omega arith))
         ∙ done k (omega arith))
         (eq-or-lt_of_le h)
 
     pub sum_left :
         (k : ℕ) → i + 1 < k → k ≤ side_room →
-        get_or (set starts (i + 1) (get_or starts i 0 + get_or starts (i + 1) 0)) k 0 ≡ row_count list nonzeros k
+        get_or (set starts (i + 1) (get_or starts (i + 1) 0 + get_or starts i 0)) k 0 ≡ row_count list nonzeros k
     sum_left k g h =
-        get_or-set_other starts (i + 1) k (get_or starts i 0 + get_or starts (i + 1) 0) 0 (λ q. no_way (omega arith))
+        get_or-set_other starts (i + 1) k (get_or starts (i + 1) 0 + get_or starts i 0) 0 (λ q. no_way (omega arith))
         ∙ left k (omega arith) h

@@ -1,12 +1,13 @@
 -- What the code of a start and of the starts together does is what the search does.
 -- Assumes nothing.
-use mathlib.Core.Bool.{Bool, false, not}
+use mathlib.Core.Bool.{Bool, true, false, not}
 use mathlib.Core.List.{List, [], ◌∷◌}
 use mathlib.Core.Path.{◌≡◌, refl, sym, ◌∙◌, ap}
 use Prim.Native.Nat.{ℕ, ◌+◌, ◌≤◌}
 use native.Mathlib.Numerals.{add-one}
 use native.Mathlib.Omega.{arith}
 use lib.ListN.{length}
+use Rattle.std.specs.Int.{from_bool}
 use Rattle.counting.specs.Tests.{bit}
 use Rattle.counting.proofs.Joined.{clash}
 use Rattle.model.specs.Walk.{is_empty}
@@ -57,6 +58,12 @@ module _ (G : Ground) (i : ℕ) (mate : List ℕ) where
         looks_is = ap (λ (o : Visited). o.looks) is;
         mate_is = ap (λ (o : Visited). o.mate) is;
       }
+
+-- a test as a number, as the code converts it
+pub from_bool_is : (b : Bool) → from_bool b ≡ bit b
+unfolding bit
+from_bool_is true = refl
+from_bool_is false = refl
 
 -- the starts begin
 pub starts_begin : (G : Ground) (mate : List ℕ) → mate ≡ no_columns → tally 0 0 (mates_in mate) ≡ starts_from (columns_in G) side_room 0

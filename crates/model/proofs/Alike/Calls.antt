@@ -1,12 +1,12 @@
 -- What the calls see of a pattern is the same for patterns that are alike: the rules, the fresh record, the walk, and what a run and a showing answer.
 -- Assumes nothing.
+use Rattle.std.specs.Prelude.{Ok, Err}
 use mathlib.Core.Bool.{Bool}
 use mathlib.Core.List.{List}
 use mathlib.Core.Option.{Option, some, none}
 use mathlib.Core.Path.{◌≡◌, refl, ap, fun_ext}
 use Prim.Native.Nat.{ℕ}
-use Rattle.model.specs.declared.Verdict.{Verdict}
-use Rattle.model.specs.declared.Verdict.TheVariants.{Accepted, Refused}
+use Rattle.model.specs.Refusal.{◌then◌, Verdict}
 use Rattle.model.specs.declared.Caps.{Caps}
 use Rattle.model.specs.declared.Search.{Search}
 use Rattle.model.specs.Pattern.{Pattern, line_total}
@@ -15,8 +15,8 @@ use Rattle.model.specs.Marking.{marking, valid}
 use Rattle.model.specs.Bound.{bound}
 use Rattle.model.specs.Matching.{looks}
 use Rattle.model.specs.Walk.{Record, Rules, rules_of, fresh_of, walked, floor}
-use Rattle.model.specs.State.{record_of}
-use Rattle.model.specs.Calls.{opened_after, ran_record, ran_after, shown, shown_parts, shown_after, parts_after}
+use Rattle.model.specs.State.{record_of, search_of}
+use Rattle.model.specs.Calls.{ran_record, ran_after, shown, shown_parts, shown_after, parts_after}
 use Rattle.model.proofs.Alike.Patterns.{Alike, total_same}
 use Rattle.model.proofs.Alike.Marks.{trail_marks, valid_same}
 use Rattle.model.proofs.Alike.Bounds.{bound_same, looks_same}
@@ -67,16 +67,15 @@ module _ {P Q : Pattern} (a : Alike P Q) where
   alike_floor caps r = ap (λ (R : Rules). floor R r) (alike_rules caps)
 
   -- what an opening answers
-  pub alike_opened : (verdict : Verdict) (caps : Caps) → opened_after verdict P caps ≡ opened_after verdict Q caps
-  unfolding opened_after
-  alike_opened Accepted caps = rw (alike_fresh caps)
-  alike_opened (Refused word place) caps = refl
+  pub alike_opened : (verdict : Verdict) (caps : Caps) → verdict then Ok (search_of (fresh_of P caps)) ≡ verdict then Ok (search_of (fresh_of Q caps))
+  alike_opened (Ok _) caps = rw (alike_fresh caps)
+  alike_opened (Err refusal) caps = refl
 
   -- what a run answers
   pub alike_ran : (verdict : Verdict) (s : Search) (budget : ℕ) → ran_after verdict s P budget ≡ ran_after verdict s Q budget
   unfolding ran_after ran_record
-  alike_ran Accepted s budget = rw (alike_rules (record_of s).caps)
-  alike_ran (Refused word place) s budget = refl
+  alike_ran (Ok _) s budget = rw (alike_rules (record_of s).caps)
+  alike_ran (Err refusal) s budget = refl
 
   -- what a showing answers
   pub shown_alike : (caps : Caps) (best : Option (List ℕ)) (floor : ℕ) → shown P caps best floor ≡ shown Q caps best floor
@@ -86,8 +85,8 @@ module _ {P Q : Pattern} (a : Alike P Q) where
 
   pub alike_shown-answer : (verdict : Verdict) (r : Record) → shown_after verdict r P ≡ shown_after verdict r Q
   unfolding shown_after
-  alike_shown-answer Accepted r = rw (alike_rules r.caps, shown_alike r.caps r.best)
-  alike_shown-answer (Refused word place) r = refl
+  alike_shown-answer (Ok _) r = rw (alike_rules r.caps, shown_alike r.caps r.best)
+  alike_shown-answer (Err refusal) r = refl
 
   -- the parts buffer after a showing
   pub parts_alike : (caps : Caps) (best : Option (List ℕ)) (parts : List ℕ) → shown_parts P caps best parts ≡ shown_parts Q caps best parts
@@ -97,5 +96,5 @@ module _ {P Q : Pattern} (a : Alike P Q) where
 
   pub alike_parts : (verdict : Verdict) (r : Record) (parts : List ℕ) → parts_after verdict r P parts ≡ parts_after verdict r Q parts
   unfolding parts_after
-  alike_parts Accepted r parts = parts_alike r.caps r.best parts
-  alike_parts (Refused word place) r parts = refl
+  alike_parts (Ok _) r parts = parts_alike r.caps r.best parts
+  alike_parts (Err refusal) r parts = refl

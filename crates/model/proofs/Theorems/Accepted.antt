@@ -11,10 +11,9 @@ use Rattle.counting.proofs.Joined.{or_fails_left, or_fails_right}
 use Rattle.model.specs.declared.Part.{Part}
 use Rattle.model.specs.declared.Part.TheVariants.{Zero, One}
 use Rattle.model.specs.declared.Word.TheVariants.{ShortBuffer, Cap, NoSplit}
-use Rattle.model.specs.declared.Verdict.TheVariants.{Accepted}
 use Rattle.model.specs.declared.Caps.{Caps}
 use Rattle.model.specs.Limits.{line_limit, nonzero_limit, cap_limit}
-use Rattle.model.specs.Refusal.{refuse, ◌then◌}
+use Rattle.model.specs.Refusal.{accepted, refuse, ◌then◌}
 use Rattle.model.specs.Split.{cap_of, caps_outside}
 use Rattle.model.specs.Pattern.{Inside, entry_bytes, row_in, column_in, pattern_of}
 use Rattle.model.specs.Calls.{sizes_verdict, rises, entry_verdict, entries_verdict, list_verdict, open_verdict}
@@ -34,15 +33,15 @@ pub record ListFine (m n nonzeros : ℕ) (list : List ℕ) : Type 0 where
   pub rising : (t : ℕ) → t < nonzeros → rises list t ≡ true
 
 -- the checks of an accepted list, each of which refuses nothing
-module _ (m n nonzeros : ℕ) (list : List ℕ) (h : list_verdict m n nonzeros list ≡ Accepted) where
-  front : sizes_verdict m n nonzeros then refuse (ltb (length list) (entry_bytes * nonzeros)) ShortBuffer 0 ≡ Accepted
+module _ (m n nonzeros : ℕ) (list : List ℕ) (h : list_verdict m n nonzeros list ≡ accepted) where
+  front : sizes_verdict m n nonzeros then refuse (ltb (length list) (entry_bytes * nonzeros)) ShortBuffer 0 ≡ accepted
   unfolding list_verdict
   front = then-first _ (entries_verdict m n list nonzeros) h
 
-  sizes : sizes_verdict m n nonzeros ≡ Accepted
+  sizes : sizes_verdict m n nonzeros ≡ accepted
   sizes = then-first _ (refuse (ltb (length list) (entry_bytes * nonzeros)) ShortBuffer 0) front
 
-  entry : (t : ℕ) → t < nonzeros → entry_verdict m n list t ≡ Accepted
+  entry : (t : ℕ) → t < nonzeros → entry_verdict m n list t ≡ accepted
   unfolding list_verdict
   entry t b = each_accepted (entry_verdict m n list) nonzeros t (then-second _ (entries_verdict m n list nonzeros) h) b
 
@@ -76,7 +75,7 @@ module _ (m n nonzeros : ℕ) (list : List ℕ) (h : list_verdict m n nonzeros l
 
 -- an accepted opening: the list is accepted, each cap is in range, and a split can meet both
 pub record OpenFine (m n nonzeros : ℕ) (list : List ℕ) (caps : Caps) : Type 0 where
-  pub listed : list_verdict m n nonzeros list ≡ Accepted
+  pub listed : list_verdict m n nonzeros list ≡ accepted
   pub caps_to : caps_outside caps ≡ false
   pub enough : nonzeros ≤ caps.cap0 + caps.cap1
 
@@ -87,9 +86,9 @@ unfolding caps_outside
 caps_ranged caps h Zero = ltb-false cap_limit caps.cap0 (or_fails_left (ltb cap_limit caps.cap0) (ltb cap_limit caps.cap1) h)
 caps_ranged caps h One = ltb-false cap_limit caps.cap1 (or_fails_right (ltb cap_limit caps.cap0) (ltb cap_limit caps.cap1) h)
 
-module _ (m n nonzeros : ℕ) (list : List ℕ) (caps : Caps) (h : open_verdict m n nonzeros list caps ≡ Accepted) where
+module _ (m n nonzeros : ℕ) (list : List ℕ) (caps : Caps) (h : open_verdict m n nonzeros list caps ≡ accepted) where
   -- up to 11
-  ranged : list_verdict m n nonzeros list then refuse (caps_outside caps) Cap 0 ≡ Accepted
+  ranged : list_verdict m n nonzeros list then refuse (caps_outside caps) Cap 0 ≡ accepted
   unfolding open_verdict
   ranged = then-first _ (refuse (ltb (caps.cap0 + caps.cap1) nonzeros) NoSplit 0) h
 

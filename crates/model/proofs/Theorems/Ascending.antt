@@ -11,7 +11,7 @@ use lib.Dec.{eqb, ltb}
 use borrow.Author.Tests.{eqb-true, ltb-true, lt-ltb}
 use Rattle.counting.specs.Tests.{◌and◌}
 use Rattle.counting.proofs.Joined.{no_way, by_test, and_intro, and_left, and_right, or_cases}
-use Rattle.model.specs.declared.Verdict.TheVariants.{Accepted}
+use Rattle.model.specs.Refusal.{accepted}
 use Rattle.model.specs.Pattern.{row_in, column_in, pattern_of}
 use Rattle.model.specs.Marking.{Marking}
 use Rattle.model.specs.Bound.{conflict}
@@ -98,7 +98,7 @@ where_ascending test column (suc n) t h =
 
 -- the conflict columns of each row of an accepted list
 pub conflict-ascending :
-    (m n nonzeros : ℕ) (list : List ℕ) → list_verdict m n nonzeros list ≡ Accepted →
+    (m n nonzeros : ℕ) (list : List ℕ) → list_verdict m n nonzeros list ≡ accepted →
     (μ : Marking) (i : ℕ) → ascending (conflict_columns (pattern_of m n nonzeros list) μ i) ≡ true
 unfolding conflict_columns conflict_of pattern_of
 conflict-ascending m n nonzeros list h μ i =

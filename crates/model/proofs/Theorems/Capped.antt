@@ -1,6 +1,7 @@
 -- The cap from a percentage and its rest: they are the one pair with (100 + e) × ceiling(N / 2) = 100 × cap + rest and rest under 100. The
 -- cap is at least ceiling(N / 2) and at most cap_limit, so an opening with it for both parts is refused for its list alone, never with 11 or 12.
 -- Assumes nothing.
+use Rattle.std.specs.Prelude.{Ok, Err}
 use mathlib.Core.List.{List}
 use mathlib.Core.Path.{◌≡◌, refl, sym, ◌∙◌, ap}
 use Prim.Native.Nat.{ℕ, ◌+◌, ◌*◌, ◌≤◌, ◌<◌, ◌/◌}
@@ -11,14 +12,12 @@ use borrow.Author.Tests.{ltb-false, lt-ltb, le-ltb}
 use Rattle.counting.proofs.Joined.{never, or_fails}
 use Rattle.model.specs.declared.Word.{Word}
 use Rattle.model.specs.declared.Word.TheVariants.{TooBig, Cap, NoSplit}
-use Rattle.model.specs.declared.Verdict.{Verdict}
-use Rattle.model.specs.declared.Verdict.TheVariants.{Accepted, Refused}
-use Rattle.model.specs.declared.CapAnswer.TheVariants as cap-answer
+use Rattle.model.specs.declared.Capped.{Capped}
 use Rattle.model.specs.Limits.{nonzero_limit, cap_limit, percent_limit}
-use Rattle.model.specs.Refusal.{refusal_number, refuse}
+use Rattle.model.specs.Refusal.{◌then◌, Verdict, accepted, refused, refusal_number, refuse}
 use Rattle.model.specs.Split.{both_caps, caps_outside, ceiling_half, cap_hundredths, cap_from_percent, rest_from_percent, CutOff}
-use Rattle.model.specs.Calls.{list_verdict, open_verdict, cap_verdict, cap_after, cap_call, open_call}
-use Rattle.model.proofs.Theorems.Checks.{refuse_so, refuse_no, refuse-not, then_accepted, then_refused, then-first, then-second, then-rest}
+use Rattle.model.specs.Calls.{list_verdict, open_verdict, cap_verdict, capped, cap_call, open_call}
+use Rattle.model.proofs.Theorems.Checks.{refuse_so, refuse_no, refuse-not, then_accepted, then_refused, then-first, then-second, then-rest, refused_by}
 use Rattle.model.proofs.Theorems.Spared.{cap_words, list_spares}
 
 -- the least number whose double is x or more
@@ -67,8 +66,8 @@ percent_opens m n nonzeros list percent few low =
     ∙ then-rest _ (refuse_no Cap 0 (or_fails small small))
 
 -- what is answered: 4 for N above its range
-pub cap_too_big : (nonzeros percent : ℕ) → nonzero_limit < nonzeros → cap_call nonzeros percent ≡ cap-answer.Refused TooBig 0
-unfolding cap_call cap_verdict cap_after
+pub cap_too_big : (nonzeros percent : ℕ) → nonzero_limit < nonzeros → cap_call nonzeros percent ≡ refused TooBig 0
+unfolding cap_call cap_verdict
 cap_too_big nonzeros percent many = rw (then_refused _ (refuse_so TooBig 0 (lt-ltb nonzero_limit nonzeros many)))
 
 -- for N in range the cap and the rest, or 11 for e above its range
@@ -77,12 +76,12 @@ module _ (nonzeros percent : ℕ) (few : nonzeros ≤ nonzero_limit) where
   unfolding cap_verdict
   percent_decides = then_accepted _ (refuse_no TooBig 0 (le-ltb nonzero_limit nonzeros few))
 
-  pub cap_given : percent ≤ percent_limit → cap_call nonzeros percent ≡ cap-answer.Capped (cap_from_percent nonzeros percent) (rest_from_percent nonzeros percent)
-  unfolding cap_call cap_after
+  pub cap_given : percent ≤ percent_limit → cap_call nonzeros percent ≡ capped (cap_from_percent nonzeros percent) (rest_from_percent nonzeros percent)
+  unfolding cap_call
   cap_given low = rw (percent_decides, refuse_no Cap 0 (le-ltb percent_limit percent low))
 
-  pub cap_refused : percent_limit < percent → cap_call nonzeros percent ≡ cap-answer.Refused Cap 0
-  unfolding cap_call cap_after
+  pub cap_refused : percent_limit < percent → cap_call nonzeros percent ≡ refused Cap 0
+  unfolding cap_call
   cap_refused high = rw (percent_decides, refuse_so Cap 0 (lt-ltb percent_limit percent high))
 
 -- N and e in range, and a cap and rest of them
@@ -92,20 +91,21 @@ pub record CapFine (nonzeros percent cap rest : ℕ) : Type 0 where
   pub cut : CutOff nonzeros percent cap rest
 
 capped_verdict :
-    (v : Verdict) (nonzeros percent cap rest : ℕ) → cap_after v nonzeros percent ≡ cap-answer.Capped cap rest →
-    (v ≡ Accepted) × (cap ≡ cap_from_percent nonzeros percent) × (rest ≡ rest_from_percent nonzeros percent)
-unfolding cap_after
-capped_verdict Accepted nonzeros percent cap rest e = (refl, cc, cc)
-capped_verdict (Refused word place) nonzeros percent cap rest e = never (cc)
+    (v : Verdict) (nonzeros percent cap rest : ℕ) → (v then capped (cap_from_percent nonzeros percent) (rest_from_percent nonzeros percent)) ≡ capped cap rest →
+    (v ≡ accepted) × (cap ≡ cap_from_percent nonzeros percent) × (rest ≡ rest_from_percent nonzeros percent)
+capped_verdict (Ok _) nonzeros percent cap rest e =
+    let same : ◌≡◌ {A = Capped} (record { cap = cap_from_percent nonzeros percent; rest = rest_from_percent nonzeros percent }) (record { cap = cap; rest = rest }) = cc in
+    (refl, sym (ap (λ (c : Capped). c.cap) same), sym (ap (λ (c : Capped). c.rest) same))
+capped_verdict (Err refusal) nonzeros percent cap rest e = never (cc)
 
 module _ (nonzeros percent cap rest : ℕ) where
   -- a cap and a rest are answered exactly where they are those of N and e in range
-  pub cap_answers : CapFine nonzeros percent cap rest → cap_call nonzeros percent ≡ cap-answer.Capped cap rest
+  pub cap_answers : CapFine nonzeros percent cap rest → cap_call nonzeros percent ≡ capped cap rest
   cap_answers fine =
       let only = cut_off_once fine.cut in
       cap_given nonzeros percent fine.size_to fine.percent_to ∙ rw (sym only.0, sym only.1) refl
 
-  module _ (e : cap_call nonzeros percent ≡ cap-answer.Capped cap rest) where
+  module _ (e : cap_call nonzeros percent ≡ capped cap rest) where
     pub cap_accepted : CapFine nonzeros percent cap rest
     unfolding cap_call cap_verdict
     cap_accepted =
@@ -125,10 +125,10 @@ module _ (nonzeros percent cap rest : ℕ) where
 -- a search opened with a cap from a percentage is never refused 11 or 12
 pub capped_never :
     (m n nonzeros : ℕ) (list : List ℕ) (percent cap rest : ℕ) (word : Word) (place : ℕ) →
-    cap_call nonzeros percent ≡ cap-answer.Capped cap rest → (open_call m n nonzeros list (both_caps cap)).verdict ≡ Refused word place →
+    cap_call nonzeros percent ≡ capped cap rest → open_call m n nonzeros list (both_caps cap) ≡ refused word place →
     (refusal_number word ≡ 11 → ⊥) × (refusal_number word ≡ 12 → ⊥)
 unfolding open_call
 capped_never m n nonzeros list percent cap rest word place e refused =
     cap_words
     (refusal_number word)
-    ((list_spares m n nonzeros list).spared word place (sym (capped-opens nonzeros percent cap rest e m n list) ∙ refused))
+    ((list_spares m n nonzeros list).spared word place (sym (capped-opens nonzeros percent cap rest e m n list) ∙ refused_by _ _ refused))

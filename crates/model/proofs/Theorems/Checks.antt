@@ -1,5 +1,6 @@
 -- Laws of checks made one after another, and what the checks of sizes and of a nonzero tell where they refuse nothing.
 -- Assumes nothing.
+use Rattle.std.specs.Prelude.{Result, Ok, Err}
 use mathlib.Core.Bool.{Bool, true, false, not}
 use mathlib.Core.List.{List}
 use mathlib.Core.Path.{◌≡◌, refl, sym, ◌∙◌, ap}
@@ -14,68 +15,86 @@ use Rattle.counting.specs.Tests.{◌or◌}
 use Rattle.counting.proofs.Joined.{no_way, or_fails_left, or_fails_right, never}
 use Rattle.model.specs.declared.Word.{Word}
 use Rattle.model.specs.declared.Word.TheVariants.{TooBig, OffMatrix, Order, SplitNumber}
-use Rattle.model.specs.declared.Verdict.{Verdict}
-use Rattle.model.specs.declared.Verdict.TheVariants.{Accepted, Refused}
+use Rattle.model.specs.declared.Refusal.{Refusal}
 use Rattle.model.specs.Limits.{line_limit, nonzero_limit}
-use Rattle.model.specs.Refusal.{refuse, ◌then◌, each_verdict}
+use Rattle.model.specs.Refusal.{verdict_in, Verdict, accepted, refused, refuse, ◌then◌, each_verdict}
 use Rattle.model.specs.Pattern.{row_in, column_in}
 use Rattle.model.specs.Calls.{outside, sizes_verdict, rises, split_number, off_matrix, entry_verdict}
 
 -- a refusal is no acceptance
-pub refused_not : {A : Type 0} {word : Word} {place : ℕ} → Refused word place ≡ Accepted → A
+pub refused_not : {A : Type 0} {word : Word} {place : ℕ} → refused word place ≡ accepted → A
 refused_not e = never (cc)
 
+-- a refusal has one word and one place
+pub one_refusal :
+    {A : Type 0} {word other : Word} {place at : ℕ} → refused {A = A} word place ≡ refused other at → (word ≡ other) × (place ≡ at)
+one_refusal {word = word} {other = other} {place = place} {at = at} e =
+    let same : ◌≡◌ {A = Refusal} (record { word = word; place = place }) (record { word = other; place = at }) = cc in
+    (ap (λ (r : Refusal). r.word) same, ap (λ (r : Refusal). r.place) same)
+
 -- a check whose test passes refuses, and one whose test fails does not
-pub refuse_so : {test : Bool} (word : Word) (place : ℕ) → test ≡ true → refuse test word place ≡ Refused word place
-unfolding refuse
+pub refuse_so : {test : Bool} (word : Word) (place : ℕ) → test ≡ true → refuse test word place ≡ refused word place
 refuse_so word place h = rw h
 
-pub refuse_no : {test : Bool} (word : Word) (place : ℕ) → test ≡ false → refuse test word place ≡ Accepted
-unfolding refuse
+pub refuse_no : {test : Bool} (word : Word) (place : ℕ) → test ≡ false → refuse test word place ≡ accepted
 refuse_no word place h = rw h
 
 -- the test of a check that refuses nothing fails
-pub refuse-not : (test : Bool) (word : Word) (place : ℕ) → refuse test word place ≡ Accepted → test ≡ false
-unfolding refuse
+pub refuse-not : (test : Bool) (word : Word) (place : ℕ) → refuse test word place ≡ accepted → test ≡ false
 refuse-not true word place h = refused_not h
 refuse-not false word place h = refl
 
+-- one word and place for two tests: the checks of each
+pub refuse_either :
+    (a b : Bool) (word : Word) (place : ℕ) → refuse (a or b) word place ≡ refuse a word place then refuse b word place
+unfolding ◌or◌
+refuse_either true b word place = refl
+refuse_either false b word place = refl
+
 -- after a check that refuses nothing, the next one counts
-pub then_accepted : {v : Verdict} (w : Verdict) → v ≡ Accepted → v then w ≡ w
-unfolding ◌then◌
+pub then_accepted : {A : Type 0} {v : Verdict} (w : Result A Refusal) → v ≡ accepted → v then w ≡ w
 then_accepted w h = rw h
 
 -- after a refusal nothing else counts
 pub then_refused :
-    {v : Verdict} {word : Word} {place : ℕ} (w : Verdict) → v ≡ Refused word place → v then w ≡ Refused word place
-unfolding ◌then◌
+    {A : Type 0} {v : Verdict} {word : Word} {place : ℕ} (w : Result A Refusal) → v ≡ refused word place → v then w ≡ refused word place
 then_refused w h = rw h
 
 -- checks that refuse nothing, one after the other
-pub then-first : (v w : Verdict) → v then w ≡ Accepted → v ≡ Accepted
-unfolding ◌then◌
-then-first Accepted w h = refl
-then-first (Refused word place) w h = h
+pub then-first : (v w : Verdict) → v then w ≡ accepted → v ≡ accepted
+then-first (Ok _) w h = refl
+then-first (Err refusal) w h = h
 
-pub then-second : (v w : Verdict) → v then w ≡ Accepted → w ≡ Accepted
-unfolding ◌then◌
-then-second Accepted w h = h
-then-second (Refused word place) w h = refused_not h
+pub then-second : (v w : Verdict) → v then w ≡ accepted → w ≡ accepted
+then-second (Ok _) w h = h
+then-second (Err refusal) w h = refused_not h
 
 -- a check that refuses nothing adds nothing
-pub then-rest : (v : Verdict) {w : Verdict} → w ≡ Accepted → v then w ≡ v
-unfolding ◌then◌
-then-rest Accepted h = h
-then-rest (Refused word place) h = refl
+pub then-rest : (v : Verdict) {w : Verdict} → w ≡ accepted → v then w ≡ v
+then-rest (Ok _) h = h
+then-rest (Err refusal) h = refl
+
+-- what is refused was refused by its checks, and what is answered passed them
+pub refused_by : {A : Type 0} (v : Verdict) (value : A) {refusal : Refusal} → v then Ok value ≡ Err refusal → v ≡ Err refusal
+refused_by (Ok _) value h = never (cc)
+refused_by (Err other) value h = cc
+
+pub answered_by : {A : Type 0} (v : Verdict) (value : A) {given : A} → v then Ok value ≡ Ok given → (v ≡ accepted) × (value ≡ given)
+answered_by (Ok _) value h = (refl, cc)
+answered_by (Err refusal) value h = never (cc)
+
+-- the verdict of an answer is that of its checks
+pub verdict_back : {A : Type 0} (v : Verdict) (value : A) → verdict_in (v then Ok value) ≡ v
+verdict_back (Ok _) value = refl
+verdict_back (Err refusal) value = refl
 
 -- checks may be grouped
 pub then_assoc : (u v w : Verdict) → u then v then w ≡ u then (v then w)
-unfolding ◌then◌
-then_assoc Accepted v w = refl
-then_assoc (Refused word place) v w = refl
+then_assoc (Ok _) v w = refl
+then_assoc (Err refusal) v w = refl
 
 -- checks of numbers that refuse nothing refuse none of them
-pub each_accepted : (check : ℕ → Verdict) (n t : ℕ) → each_verdict check n ≡ Accepted → t < n → check t ≡ Accepted
+pub each_accepted : (check : ℕ → Verdict) (n t : ℕ) → each_verdict check n ≡ accepted → t < n → check t ≡ accepted
 unfolding each_verdict
 each_accepted check zero t h b = no_way (omega arith)
 each_accepted check (suc n) t h b =
@@ -85,28 +104,28 @@ each_accepted check (suc n) t h b =
     (eq-or-lt_of_le (le_of_suc-le-suc b))
 
 -- and the other way round
-pub each_fine : (check : ℕ → Verdict) (n : ℕ) → ((t : ℕ) → t < n → check t ≡ Accepted) → each_verdict check n ≡ Accepted
+pub each_fine : (check : ℕ → Verdict) (n : ℕ) → ((t : ℕ) → t < n → check t ≡ accepted) → each_verdict check n ≡ accepted
 unfolding each_verdict
 each_fine check zero h = refl
 each_fine check (suc n) h = then_accepted (check n) (each_fine check n (λ t l. h t (omega arith))) ∙ h n (omega arith)
 
 -- one number more
 pub each_more :
-    (check : ℕ → Verdict) (t : ℕ) → each_verdict check t ≡ Accepted → check t ≡ Accepted →
-    each_verdict check (t + 1) ≡ Accepted
+    (check : ℕ → Verdict) (t : ℕ) → each_verdict check t ≡ accepted → check t ≡ accepted →
+    each_verdict check (t + 1) ≡ accepted
 unfolding each_verdict
 each_more check t h e = rw add-one (then_accepted (check t) h ∙ e)
 
 -- the first refusal is that of every larger count
 pub each-stop :
-    (check : ℕ → Verdict) (t : ℕ) (word : Word) (place n : ℕ) →
-    each_verdict check t ≡ Accepted → check t ≡ Refused word place → t < n → each_verdict check n ≡ Refused word place
+    (check : ℕ → Verdict) (t : ℕ) (refusal : Refusal) (n : ℕ) →
+    each_verdict check t ≡ accepted → check t ≡ Err refusal → t < n → each_verdict check n ≡ Err refusal
 unfolding each_verdict
-each-stop check t word place zero h e b = no_way (omega arith)
-each-stop check t word place (suc k) h e b =
+each-stop check t refusal zero h e b = no_way (omega arith)
+each-stop check t refusal (suc k) h e b =
     ⊎_elim
     (λ q. ap (λ x. each_verdict check x then check x) (sym q) ∙ then_accepted (check t) h ∙ e)
-    (λ l. then_refused (check k) (each-stop check t word place k h e l))
+    (λ l. ap (λ v. v then check k) (each-stop check t refusal k h e l))
     (eq-or-lt_of_le (le_of_suc-le-suc b))
 
 -- a number that is not outside lies in its range
@@ -118,7 +137,7 @@ in_range limit x h =
     (omega arith, few)
 
 -- sizes that are accepted: check 4
-module _ (m n nonzeros : ℕ) (h : sizes_verdict m n nonzeros ≡ Accepted) where
+module _ (m n nonzeros : ℕ) (h : sizes_verdict m n nonzeros ≡ accepted) where
   all_fail : outside line_limit m or outside line_limit n or ltb nonzero_limit nonzeros or ltb (m * n) nonzeros ≡ false
   unfolding sizes_verdict
   all_fail = refuse-not _ TooBig 0 h
@@ -146,8 +165,8 @@ module _ (m n nonzeros : ℕ) (h : sizes_verdict m n nonzeros ≡ Accepted) wher
       (or_fails_right (outside line_limit m or outside line_limit n or ltb nonzero_limit nonzeros) _ all_fail)
 
 -- a nonzero that is accepted: checks 17, 5 and 10
-module _ (m n : ℕ) (list : List ℕ) (t : ℕ) (h : entry_verdict m n list t ≡ Accepted) where
-  before_order : refuse (split_number list t) SplitNumber t then refuse (off_matrix m n list t) OffMatrix t ≡ Accepted
+module _ (m n : ℕ) (list : List ℕ) (t : ℕ) (h : entry_verdict m n list t ≡ accepted) where
+  before_order : refuse (split_number list t) SplitNumber t then refuse (off_matrix m n list t) OffMatrix t ≡ accepted
   unfolding entry_verdict
   before_order = then-first _ (refuse (not (rises list t)) Order t) h
 

@@ -1,5 +1,6 @@
 -- Words that no check of a chain refuses with; the checks of a list refuse nothing for a cap.
 -- Assumes nothing.
+use Rattle.std.specs.Prelude.{Ok, Err}
 use mathlib.Core.Bool.{Bool, true, false}
 use mathlib.Core.List.{List}
 use mathlib.Core.Path.{◌≡◌, refl, sym, ◌∙◌, ap}
@@ -10,31 +11,28 @@ use Rattle.counting.specs.Tests.{◌or◌, pick}
 use Rattle.counting.proofs.Joined.{never, clash, or_fails_left, or_fails_right}
 use Rattle.model.specs.declared.Word.{Word}
 use Rattle.model.specs.declared.Word.TheVariants.{TooBig, OffMatrix, ShortBuffer, Order, SplitNumber}
-use Rattle.model.specs.declared.Verdict.{Verdict}
-use Rattle.model.specs.declared.Verdict.TheVariants.{Accepted, Refused}
-use Rattle.model.specs.Refusal.{refusal_number, refuse, ◌then◌, each_verdict}
+use Rattle.model.specs.Refusal.{Verdict, accepted, refused, refusal_number, refuse, ◌then◌, each_verdict}
 use Rattle.model.specs.Calls.{sizes_verdict, entry_verdict, list_verdict}
+use Rattle.model.proofs.Theorems.Checks.{one_refusal}
 
 -- a verdict that refuses with no word that passes the test
 pub record Spares (test : Word → Bool) (v : Verdict) : Type 0 where
-  pub spared : (word : Word) (place : ℕ) → v ≡ Refused word place → test word ≡ false
+  pub spared : (word : Word) (place : ℕ) → v ≡ refused word place → test word ≡ false
 
 module _ {test : Word → Bool} where
-  pub accepted_spares : Spares test Accepted
+  pub accepted_spares : Spares test accepted
   accepted_spares = record { spared = λ word place e. never (cc) }
 
-  pub refused_spares : (word : Word) (place : ℕ) → test word ≡ false → Spares test (Refused word place)
-  refused_spares word place h = record { spared = λ other at e. let same : word ≡ other = cc in ap test (sym same) ∙ h }
+  pub refused_spares : (word : Word) (place : ℕ) → test word ≡ false → Spares test (refused word place)
+  refused_spares word place h = record { spared = λ other at e. ap test (sym (one_refusal e).0) ∙ h }
 
-  pub refuse_spares : (refused : Bool) (word : Word) (place : ℕ) → test word ≡ false → Spares test (refuse refused word place)
-  unfolding refuse
+  pub refuse_spares : (failed : Bool) (word : Word) (place : ℕ) → test word ≡ false → Spares test (refuse failed word place)
   refuse_spares true word place h = refused_spares word place h
   refuse_spares false word place h = accepted_spares
 
   then_by : (v w : Verdict) → Spares test v → Spares test w → Spares test (v then w)
-  unfolding ◌then◌
-  then_by Accepted w first second = second
-  then_by (Refused word place) w first second = first
+  then_by (Ok _) w first second = second
+  then_by (Err refusal) w first second = first
 
   infixl 20 ◌also◌
   -- one check after another
@@ -53,12 +51,11 @@ module _ {test : Word → Bool} where
 
   -- a refusal with a word that the checks before and behind spare is that of the check between them
   pub between_spared :
-      (v w : Verdict) (refused : Bool) (word : Word) (place : ℕ) (other : Word) (at : ℕ) → Spares test v → Spares test w →
-      v then (refuse refused word place then w) ≡ Refused other at → test other ≡ true → (refused ≡ true) × (word ≡ other)
-  unfolding ◌then◌ refuse
-  between_spared Accepted w true word place other at before behind e h = (refl, cc)
-  between_spared Accepted w false word place other at before behind e h = clash h (behind.spared other at e)
-  between_spared (Refused x y) w refused word place other at before behind e h = clash h (before.spared other at e)
+      (v w : Verdict) (failed : Bool) (word : Word) (place : ℕ) (other : Word) (at : ℕ) → Spares test v → Spares test w →
+      v then (refuse failed word place then w) ≡ refused other at → test other ≡ true → (failed ≡ true) × (word ≡ other)
+  between_spared (Ok _) w true word place other at before behind e h = (refl, (one_refusal e).0)
+  between_spared (Ok _) w false word place other at before behind e h = clash h (behind.spared other at e)
+  between_spared (Err refusal) w refused word place other at before behind e h = clash h (before.spared other at e)
 
 -- 11 and 12, the refusals for a cap
 unfoldable pub for_cap : ℕ → Bool

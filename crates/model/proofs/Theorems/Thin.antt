@@ -12,7 +12,7 @@ use Rattle.counting.specs.Sums.{count}
 use Rattle.counting.proofs.Joined.{no_way, by_test, or_cases}
 use Rattle.counting.proofs.Charged.{count_inj}
 use Rattle.counting.proofs.Counted.{count_mono, count_most}
-use Rattle.model.specs.declared.Verdict.TheVariants.{Accepted}
+use Rattle.model.specs.Refusal.{accepted}
 use Rattle.model.specs.Limits.{line_limit}
 use Rattle.model.specs.Pattern.{row_in, column_in, pattern_of, row_line, column_line, on, line_count}
 use Rattle.model.specs.Calls.{list_verdict}
@@ -48,7 +48,7 @@ few_apart p across nonzeros most inside apart =
         (λ k. absurd (apart t s (ltb-true t s k) b f e (sym g)))
         (λ k. let up : t ≤ s = ltb-false s t l in let down : s ≤ t = ltb-false t s k in omega arith))
 
-module _ (m n nonzeros : ℕ) (list : List ℕ) (h : list_verdict m n nonzeros list ≡ Accepted) where
+module _ (m n nonzeros : ℕ) (list : List ℕ) (h : list_verdict m n nonzeros list ≡ accepted) where
   -- a row has at most a nonzero in each column
   pub row_thin : (i : ℕ) → count (λ t. eqb i (row_in list t)) nonzeros ≤ n
   row_thin i =

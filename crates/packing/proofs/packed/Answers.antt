@@ -1,30 +1,36 @@
-use mathlib.Core.Path.{ap}
+use mathlib.Core.List.{List, ◌∷◌}
+use mathlib.Core.Path.{ap, subst}
+use Prim.Native.Nat.{ℕ, ◌<◌, ◌≤◌}
 use native.Mathlib.Omega.{arith}
+use lib.ListN.{length}
+use Rattle.std.proofs.lemmas.List.{length-take, get_or-take}
 use Rattle.counting.proofs.Joined.{no_way}
+use Rattle.trail.specs.Trail.{mark_room}
 use Rattle.trail.specs.declared.Trail.{Trail}
 use Rattle.model.specs.State.{trail_of}
+use Rattle.packing.specs.Packed.{Packs}
 use Rattle.packing.proofs.Copying.{packed_none, packed_more, packed_all}
 use Rattle.packing.proofs.packed.Goals as goal
 
-pub returns-then-len-gt-MARK_ROOM : goal.returns-then-len-gt-MARK_ROOM
+pub returns-then-trail-gt-MARK_ROOM : goal.returns-then-trail-gt-MARK_ROOM
 unfolding trail_of
-returns-then-len-gt-MARK_ROOM c τ b h same = no_way (omega (arith, c.if-len-gt-MARK_ROOM.true, ap (λ (x : Trail). x.len) same))
+returns-then-trail-gt-MARK_ROOM c τ b h same = no_way (omega (arith, c.if-trail-gt-MARK_ROOM.true, ap (λ (x : Trail). x.len) same))
 
-pub loop-i-init : goal.loop-i-init
-loop-i-init c = (omega arith, c.if-len-gt-MARK_ROOM.false, λ are. packed_none _ c.args.trail.marks c.empty-t.ensures)
+pub loop-mark-init : goal.loop-mark-init
+loop-mark-init c are = packed_none _ c.args.trail.marks c.empty-t.ensures
 
-pub loop-i-preserved : goal.loop-i-preserved
-loop-i-preserved c =
-    let l = c.loop-i in
+pub loop-mark-preserved : goal.loop-mark-preserved
+loop-mark-preserved c are =
+    let l = c.loop-mark in
     let marks = c.args.trail.marks in
-    let below = c.loop-i-test.true in (
-      omega arith,
-      l.invariant.1,
-      λ are.
-          packed_more l.t _ marks l.i (l.invariant.2 are) (omega (arith, l.invariant.1)) (are l.i below) c.append-t.ensures,
-    )
+    let below : l.mark-index < c.args.trail.len = omega (arith, length-take c.args.trail.len marks) in
+    packed_more l.t _ marks l.mark-index (l.invariant are) (omega arith) (are l.mark-index below)
+    (subst
+    (λ (v : ℕ). (τ : List ℕ) → Packs l.t τ → length τ < mark_room → v ≤ 2 → Packs c.append-t.result (v ∷ τ))
+    (get_or-take c.args.trail.len marks l.mark-index 0 below)
+    c.append-t.ensures)
 
 pub returns : goal.returns
 returns c τ b h same =
-    let l = c.loop-i in
-    packed_all l.t _ l.i τ l.invariant.2 (omega (arith, c.loop-i-test.false, l.invariant.0)) b h same
+    let l = c.loop-mark in
+    packed_all l.t _ l.mark-index τ l.invariant (omega (arith, length-take c.args.trail.len c.args.trail.marks)) b h same

@@ -9,6 +9,6 @@ pub returns-then-complete : goal.returns-then-complete
 unfolding ended
 returns-then-complete c = sym (ap (λ (b : Bool). ended b c.args.looks) c.if-complete.true)
 
-pub returns : goal.returns
+pub returns-else-complete : goal.returns-else-complete
 unfolding ended
-returns c = sym (ap (λ (b : Bool). ended b c.args.looks) c.if-complete.false)
+returns-else-complete c = sym (ap (λ (b : Bool). ended b c.args.looks) c.if-complete.false)

@@ -1,25 +1,19 @@
 -- `answering::splitting::answer` meets its contract.
 -- Assumes nothing.
-use native.Mathlib.Omega.{arith}
-use borrow.Author.Tests.{not-true, not-false}
-use Rattle.counting.proofs.Joined.{no_way}
+use mathlib.Core.Path.{sym, ◌∙◌}
+use borrow.Author.Rules.{part_to_end}
 use Rattle.answering.specs.Answer.{answer_text}
-use Rattle.answering.proofs.Steps.{prints_answer, prints_refusal, command-other, command-text, command-room}
+use Rattle.answering.proofs.Steps.{prints_answer, prints_refusal, line_right, line_wrong}
 use Rattle.answering.proofs.splitting.answer.Goals as goal
 
-pub returns-then-not-command : goal.returns-then-not-command
+pub returns-in_default : goal.returns-in_default
 unfolding answer_text
-returns-then-not-command c =
-    let a = c.args in
-    prints_refusal (command-other a.input.now c.command_of-command.result c.command_of-command.ensures (not-true _ c.if-not-command.true)) c.put_refused.ensures
-
-pub returns-then-len-next : goal.returns-then-len-next
-returns-then-len-next c =
-    let a = c.args in
-    no_way (omega (arith, command-room a.input.now c.command_of-command.result c.command_of-command.ensures (not-false _ c.if-not-command.false), c.if-len-next.true))
+returns-in_default c = prints_refusal (line_wrong c.args.input.now (sym c.command_of.ensures ∙ c.in_default.is)) c.put_refused.ensures
 
 pub returns : goal.returns
 unfolding answer_text
 returns c =
-    let a = c.args in
-    prints_answer (command-text a.input.now c.command_of-command.result c.command_of-command.ensures (not-false _ c.if-not-command.false)) c.put_text.ensures
+    prints_answer
+    (line_right c.args.input.now _ (sym c.command_of.ensures ∙ c.in-Some.is)
+    ∙ rw (part_to_end c.args.input.now c.in-Some.command.next, c.from.ensures, c.from-2.ensures))
+    c.put_text.ensures

@@ -1,10 +1,11 @@
 -- `answering::splitting::put_opening` meets its contract.
 -- Assumes nothing.
+use mathlib.Core.Path.{sym, ◌∙◌}
 use Rattle.answering.proofs.Steps.{prints_answer, prints_refusal, opened_run, opened_refused}
 use Rattle.answering.proofs.splitting.put_opening.Goals as goal
 
-pub returns-in-Accepted : goal.returns-in-Accepted
-returns-in-Accepted c = prints_answer (opened_run c.open-opened.result _ _ _ _ _ _ _ c.open-opened.ensures.answer c.in-Accepted.is) c.put_run.ensures
+pub returns-in-Ok : goal.returns-in-Ok
+returns-in-Ok c = prints_answer (opened_run _ _ _ _ _ _ (sym c.open.ensures.answer ∙ c.in-Ok.is)) c.put_run.ensures
 
-pub returns-in-Refused : goal.returns-in-Refused
-returns-in-Refused c = prints_refusal (opened_refused c.open-opened.result _ _ _ _ _ _ _ c.open-opened.ensures.answer _ _ c.in-Refused.is) c.put_refused.ensures
+pub returns-in-Err : goal.returns-in-Err
+returns-in-Err c = prints_refusal (opened_refused _ _ _ _ _ _ (sym c.open.ensures.answer ∙ c.in-Err.is)) c.put_refused.ensures

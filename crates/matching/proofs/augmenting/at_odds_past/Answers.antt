@@ -12,4 +12,6 @@ returns-then-j-lt-SIDE_ROOM c =
     c.differ.ensures ∙ sym (and_passed _ (lt-ltb a.j side_room c.if-j-lt-SIDE_ROOM.true))
 
 pub returns-else-j-lt-SIDE_ROOM : goal.returns-else-j-lt-SIDE_ROOM
-returns-else-j-lt-SIDE_ROOM c = sym (and_fails_left _ (le-ltb c.args.j side_room c.if-j-lt-SIDE_ROOM.false))
+returns-else-j-lt-SIDE_ROOM c =
+    let fails = le-ltb c.args.j side_room c.if-j-lt-SIDE_ROOM.false in
+    fails ∙ sym (and_fails_left _ fails)

@@ -1,7 +1,7 @@
 -- `matching::augmenting::differ` meets its contract.
 -- Assumes nothing.
 use mathlib.Core.Logic.{⊎_elim}
-use mathlib.Core.Path.{◌≡◌, ◌∙◌, ap}
+use mathlib.Core.Path.{◌≡◌}
 use Prim.Native.Nat.{ℕ, ◌+◌}
 use native.Mathlib.Omega.{arith}
 use lib.Dec.{eqb}
@@ -32,6 +32,5 @@ sum_one a b =
 pub returns : goal.returns
 returns c =
     let a = c.args in
-    ap (λ (x : ℕ). eqb (x + c.wide-2.result) 1) c.wide.ensures.0
-    ∙ ap (λ (y : ℕ). eqb (a.a + y) 1) c.wide-2.ensures.0
-    ∙ sum_one a.a a.b
+    let sum = sum_one a.a a.b in
+    cc

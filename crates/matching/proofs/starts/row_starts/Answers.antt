@@ -11,42 +11,43 @@ loop-i-init c =
     let a = c.args in (
       v.ensures.0,
       omega arith,
-      λ k h. starts_begin a.nonzeros a.list.now v.result v.ensures.1 k h,
+      λ k h. starts_begin a.matrix.now.nonzeros a.matrix.now.list.now v.result v.ensures.1 k h,
       λ k g h. v.ensures.1 k h,
     )
 
-pub overflow_add-starts : goal.overflow_add-starts
-overflow_add-starts c =
+pub overflow_add-starts-in-loop-i : goal.overflow_add-starts-in-loop-i
+overflow_add-starts-in-loop-i c =
     let l = c.loop-i in
     let a = c.args in
     omega (
       arith,
-      sum_is a.nonzeros a.list.now l.starts l.i l.invariant.0 c.loop-i-test.true l.invariant.2 l.invariant.3,
-      starts_most a.nonzeros a.list.now (l.i + 1),
+      sum_is a.matrix.now.nonzeros a.matrix.now.list.now l.starts l.i l.invariant.0 (omega arith) l.invariant.2 l.invariant.3,
+      starts_most a.matrix.now.nonzeros a.matrix.now.list.now (l.i + 1),
+      c.row_counts-starts.ensures.2,
     )
 
 pub loop-i-preserved : goal.loop-i-preserved
 loop-i-preserved c =
     let l = c.loop-i in
     let a = c.args in (
-      length-set l.starts (l.i + 1) (get_or l.starts l.i 0 + get_or l.starts (l.i + 1) 0) ∙ l.invariant.0,
+      length-set l.starts (l.i + 1) (get_or l.starts (l.i + 1) 0 + get_or l.starts l.i 0) ∙ l.invariant.0,
       omega arith,
       sum_done
-          a.nonzeros
-          a.list.now
+          a.matrix.now.nonzeros
+          a.matrix.now.list.now
           l.starts
           l.i
           l.invariant.0
-          c.loop-i-test.true
+          (omega arith)
           l.invariant.2
           l.invariant.3,
       sum_left
-          a.nonzeros
-          a.list.now
+          a.matrix.now.nonzeros
+          a.matrix.now.list.now
           l.starts
           l.i
           l.invariant.0
-          c.loop-i-test.true
+          (omega arith)
           l.invariant.2
           l.invariant.3,
     )
@@ -55,4 +56,5 @@ pub returns : goal.returns
 returns c =
     let l = c.loop-i in
     let a = c.args in
-    λ m n i h. l.invariant.2 i (omega arith) ∙ start_same m n a.nonzeros a.list.now i
+    let P = a.matrix.now in
+    λ i h. l.invariant.2 i (omega arith) ∙ start_same P.m P.n P.nonzeros P.list.now i

@@ -13,9 +13,8 @@ returns-then-at-eq0 c τ p b m = c.append_word.ensures τ p c.if-at-eq0.true m
 
 pub returns : goal.returns
 returns c τ p b m =
-    let more = c.more.ensures (counted_few p b) in
-    let part = c.part.ensures.0 in
-    packs_append c.args.self c.more.result c.args.mark τ p (omega (arith, p.long))
+    rw c.from.ensures
+    (packs_append c.args.self c.saturating_add.result c.args.mark τ p (omega (arith, p.long))
     c.if-at-eq0.false
     m
-    (omega (arith, counted_all p))
+    (omega (arith, counted_few p b, counted_all p)))

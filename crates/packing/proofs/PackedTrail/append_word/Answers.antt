@@ -6,8 +6,6 @@ use Rattle.packing.proofs.PackedTrail.append_word.Goals as goal
 
 pub returns : goal.returns
 returns c τ p d m =
-    let self = c.args.self in
-    let short = c.requires in
-    let all = counted_all p in
-    packs_append_word self c.less-w.result c.more.result _ τ p short d m c.less-w.ensures
-    (omega (arith, c.more.ensures (counted_few p (omega (arith, p.long))), c.part.ensures.0))
+    rw c.from.ensures
+    (packs_append_word c.args.self c.saturating_sub-w.result c.saturating_add.result _ τ p c.requires d m c.saturating_sub-w.ensures
+    (omega (arith, counted_few p (omega (arith, p.long)), counted_all p)))

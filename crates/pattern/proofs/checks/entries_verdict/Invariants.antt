@@ -1,14 +1,9 @@
--- `pattern::entries_verdict` meets its contract. The loop's invariant: the nonzeros passed are accepted. The first refusal is that of every larger count.
+-- `pattern::entries_verdict` meets its contract. The loop's invariant: the nonzeros passed are accepted.
 -- Assumes nothing.
 use mathlib.Core.Path.{◌≡◌}
-use Prim.Native.Nat.{◌≤◌, ◌-◌}
-use Rattle.model.specs.declared.Verdict.TheVariants.{Accepted}
 use Rattle.model.specs.Calls.{entry_verdict}
-use Rattle.model.specs.Refusal.{each_verdict}
+use Rattle.model.specs.Refusal.{accepted, each_verdict}
 use Rattle.pattern.proofs.checks.entries_verdict.Given as goal
 
 abbrev pub invariant-loop-t : goal.invariant-loop-t
-invariant-loop-t l = (l.t ≤ l.nonzeros) × (each_verdict (entry_verdict l.m l.n l.list) l.t ≡ Accepted)
-
-abbrev pub decreases-loop-t : goal.decreases-loop-t
-decreases-loop-t l = l.nonzeros - l.t
+invariant-loop-t l = each_verdict (entry_verdict l.m l.n l.list) l.t ≡ accepted

@@ -1,27 +1,21 @@
 -- `pattern::load` meets its contract. The cast fits where the sizes are accepted.
 -- Assumes nothing.
-use mathlib.Core.Path.{◌≡◌, sym, ◌∙◌}
+use mathlib.Core.List.{[], ◌∷◌}
+use mathlib.Core.Path.{sym, ◌∙◌, ap}
 use native.Mathlib.Omega.{arith}
-use Rattle.model.specs.declared.Verdict.TheVariants.{Accepted}
-use Rattle.pattern.specs.Measures.{measure_verdict, load_call, load_replies}
+use Rattle.std.specs.Prelude.{Ok}
+use Rattle.model.specs.Refusal.{given}
 use Rattle.model.proofs.Theorems.Checks.{nonzeros_small}
-use Rattle.pattern.proofs.Answers.{measured-told, measure_sizes, load_value, load_refused}
+use Rattle.pattern.specs.Measures.{load_call, load_replies}
+use Rattle.pattern.proofs.Answers.{measure_sizes, load_value}
 use Rattle.pattern.proofs.measures.load.Goals as goal
-use Rattle.pattern.proofs.measures.load.Goals.{In-Accepted}
-
--- in the first arm nothing is refused
-accepted : (c : In-Accepted) →
-    let a = c.args in
-    measure_verdict a.m a.n a.nonzeros a.list.now a.parts.now ≡ Accepted
-accepted c = sym c.measure_verdict-verdict.ensures ∙ c.in-Accepted.is
 
 pub overflow_cast-nonzeros : goal.overflow_cast-nonzeros
-overflow_cast-nonzeros c = omega (arith, nonzeros_small _ _ _ (measure_sizes _ _ _ _ _ (accepted (goal.at.overflow_cast-nonzeros c).In-Accepted)))
+overflow_cast-nonzeros c = record { fits = omega (arith, nonzeros_small _ _ _ (measure_sizes _ _ _ _ _ (sym c.measure_verdict.ensures ∙ c.in_ok-measure_verdict.was))) }
 
-pub returns-in-Accepted : goal.returns-in-Accepted
+pub returns : goal.returns
 unfolding load_call load_replies
-returns-in-Accepted c = record { answer = (measured-told _ _ (load_value _ _ _ _ _ _ _ (accepted (goal.at.returns-in-Accepted c).In-Accepted) c.load_of-value.ensures)).0; reply = (measured-told _ _ (load_value _ _ _ _ _ _ _ (accepted (goal.at.returns-in-Accepted c).In-Accepted) c.load_of-value.ensures)).1 }
-
-pub returns-in-Refused : goal.returns-in-Refused
-unfolding load_call load_replies
-returns-in-Refused c = record { answer = (measured-told _ _ (load_refused _ _ _ _ _ _ _ _ (sym c.measure_verdict-verdict.ensures ∙ c.in-Refused.is))).0; reply = (measured-told _ _ (load_refused _ _ _ _ _ _ _ _ (sym c.measure_verdict-verdict.ensures ∙ c.in-Refused.is))).1 }
+returns c =
+    let accepted = sym c.measure_verdict.ensures ∙ c.in_ok-measure_verdict.was in
+    let value = load_value c.args.m c.args.n c.args.nonzeros c.args.list.now c.args.parts.now c.args.part c.load_of.ensures in
+    record { answer = rw accepted (ap Ok value); reply = rw accepted (ap (λ x. given (x ∷ [])) value) }

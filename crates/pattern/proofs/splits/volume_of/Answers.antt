@@ -9,13 +9,14 @@ use Rattle.pattern.proofs.splits.volume_of.Goals as goal
 pub returns : goal.returns
 returns c few =
     let a = c.args in
+    let matrix = a.matrix.now in
     c.cuts_of.ensures
-    ∙ ap (count (both_held _ _)) (rw (c.wide16.ensures.0, c.wide16-2.ensures.0))
+    ∙ ap (count (both_held _ _)) (rw (c.from.ensures, c.from-2.ensures))
     ∙ volume-from
-    a.m
-    a.n
-    a.nonzeros
-    a.list.now
+    matrix.m
+    matrix.n
+    matrix.nonzeros
+    matrix.list.now
     a.parts.now
     _
     _

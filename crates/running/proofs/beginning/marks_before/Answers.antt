@@ -6,29 +6,32 @@ use Rattle.trail.specs.Trail.{dropped}
 use Rattle.trail.specs.declared.Trail.{Trail}
 use Rattle.model.specs.State.{trail_of}
 use Rattle.packing.specs.Packed.{earlier}
-use Rattle.bound.proofs.Evaluations.{by_line}
+use Rattle.bound.proofs.Evaluations.{listed_few, by_line}
 use Rattle.running.proofs.Turns.{earlier-length}
 use Rattle.running.proofs.Beginnings.{dropped-earlier}
 use Rattle.running.proofs.beginning.marks_before.Goals as goal
 
 pub returns : goal.returns
 unfolding trail_of
-returns c = λ m n nonzeros list τ all few placed held short l b.
-    let e = c.drop-before.ensures ∙ ap dropped held ∙ dropped-earlier τ short in
+returns c = λ τ held short l b.
+    let t = c.args.tables.now in
+    let x = t.matrix in
+    let ready = t.made.ready in
+    let e = c.drop.ensures ∙ ap dropped held ∙ dropped-earlier τ short in
     by_line
-    m
-    n
-    nonzeros
-    list
+    x.m
+    x.n
+    x.nonzeros
+    x.list.now
     _
-    c.drop-before.result.marks
+    c.drop.result.marks
     c.marks_by_line.result
-    c.drop-before.result.len
+    c.drop.result.len
     _
-    all
-    few
+    c.lines.ensures
+    (listed_few ready.listed)
     c.marks_by_line.ensures
-    placed
+    ready.placed
     (earlier τ)
     (omega (arith, earlier-length τ))
     (ap (λ (t : Trail). t.marks) e)

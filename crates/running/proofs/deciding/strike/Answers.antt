@@ -20,17 +20,17 @@ loop-weight-init c =
 pub overflow_mul-all : goal.overflow_mul-all
 overflow_mul-all c =
     let k = c.loop-weight.weight - 1 in
-    omega (arith, mul-le-mul {n₁ = c.wide16-lines.result} {m₁ = k} {n₂ = 65535} {m₂ = 300} (omega arith) (omega arith))
+    omega (arith, mul-le-mul {n₁ = c.from-lines.result} {m₁ = k} {n₂ = 65535} {m₂ = 300} (omega arith) (omega arith))
 
 pub overflow_add-result : goal.overflow_add-result
 overflow_add-result c =
     let k = c.loop-weight.weight - 1 in
-    omega (arith, mul-le-mul {n₁ = c.wide16-lines.result} {m₁ = k} {n₂ = 65535} {m₂ = 300} (omega arith) (omega arith))
+    omega (arith, mul-le-mul {n₁ = c.from-lines.result} {m₁ = k} {n₂ = 65535} {m₂ = 300} (omega arith) (omega arith))
 
 pub nonzero_div-result : goal.nonzero_div-result
 nonzero_div-result c =
     let i = c.loop-weight in
-    omega (arith, some_weight c.wide16-lines.result (i.weight - 1) i.over i.invariant.1 c.if-over-all.true)
+    omega (arith, some_weight c.from-lines.result (i.weight - 1) i.over i.invariant.1 c.if-over-all.true)
 
 pub overflow_add-result-then-over-all : goal.overflow_add-result-then-over-all
 overflow_add-result-then-over-all c =
@@ -38,7 +38,7 @@ overflow_add-result-then-over-all c =
     let k = i.weight - 1 in
     omega (
       arith,
-      mul-le-mul {n₁ = c.wide16-lines.result} {m₁ = k} {n₂ = 65535} {m₂ = 300} (omega arith) (omega arith),
+      mul-le-mul {n₁ = c.from-lines.result} {m₁ = k} {n₂ = 65535} {m₂ = 300} (omega arith) (omega arith),
       div-le_self (i.over + k - 1) k,
     )
 
@@ -49,12 +49,12 @@ returns-then-over-all c =
     strike_ends
     (λ x. get_or a.tally.now (tally_place a.p x) 0)
     i.weight
-    c.wide16-lines.result
+    c.from-lines.result
     i.over
     i.struck
     _
     c.loop-weight-test.true
-    c.wide16-lines.ensures.0
+    c.from-lines.ensures
     i.invariant.1
     c.if-over-all.true
     i.invariant.3
@@ -69,12 +69,12 @@ loop-weight-preserved c =
       strike_on
           (λ x. get_or a.tally.now (tally_place a.p x) 0)
           i.weight
-          c.wide16-lines.result
+          c.from-lines.result
           i.over
           i.struck
           _
           c.loop-weight-test.true
-          c.wide16-lines.ensures.0
+          c.from-lines.ensures
           c.if-over-all.false
           i.invariant.3,
     )

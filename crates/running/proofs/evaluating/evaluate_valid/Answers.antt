@@ -1,54 +1,61 @@
--- `running::evaluating::evaluate_valid` meets its contract.
+-- `running::evaluating::evaluate_valid` meets its contract. The tables' matrix is the one that is given.
 -- Assumes nothing.
+use mathlib.Core.Bool.{true}
+use mathlib.Core.Path.{◌≡◌, sym, subst}
+use Prim.Native.Nat.{ℕ, ◌+◌, ◌≤◌, ◌<◌}
 use native.Mathlib.Omega.{arith}
-use Rattle.model.specs.Pattern.{pattern_of}
+use Rattle.model.specs.Marking.{unmarked, valid}
 use Rattle.model.proofs.Theorems.OfList.{lines_of}
+use Rattle.pattern.specs.declared.matrix.Matrix.{Matrix}
+use Rattle.pattern.specs.Matrix.{pattern_in}
 use Rattle.weighing.specs.Cells.{marking_in}
+use Rattle.weighing.specs.Taking.{TakenOf}
+use Rattle.running.specs.Evaluating.{Evaluates}
 use Rattle.running.specs.Laying.{first_marks}
+use Rattle.running.proofs.Beginnings.{every_line}
 use Rattle.running.proofs.Firsts.{first-valid, holds-given}
-use Rattle.running.proofs.Evaluated.{tables_of_lem, listed_topped}
+use Rattle.running.proofs.Evaluated.{listed_topped}
 use Rattle.running.proofs.evaluating.evaluate_valid.Goals as goal
 
-pub kept_of-kept-requires : goal.kept_of-kept-requires
-kept_of-kept-requires c =
-    let made = tables_of_lem c.row_starts-rows.result _ c.requires.0 c.row_starts-rows.ensures c.lines_of-lines.ensures c.line_counts-counts.ensures c.line_starts-starts.ensures c.crossings-cross.ensures.1 c.wide16.ensures.0 in
+pub of-kept-requires : goal.of-kept-requires
+of-kept-requires c =
+    let t = c.of-tables.result in
     record {
-      pattern = pattern_of c.args.m c.args.n c.args.nonzeros c.args.list.now;
       caps = c.args.caps;
-      tables = made.tables;
-      every = made.every;
-      fits = c.requires.1;
+      every = every_line t _ _ c.lines.ensures c.from.ensures;
+      fits = subst (λ (x : Matrix). valid (pattern_in x) c.args.caps (marking_in c.args.given.now) ≡ true) (sym c.of-tables.ensures) c.requires.1;
     }
 
-pub evaluate_kept-requires : goal.evaluate_kept-requires
-evaluate_kept-requires c =
-    let P = pattern_of c.args.m c.args.n c.args.nonzeros c.args.list.now in
+pub evaluate-requires : goal.evaluate-requires
+evaluate-requires c =
+    let t = c.of-tables.result in
+    let P = pattern_in t.matrix in
     let μ = marking_in c.args.given.now in
-    let end = c.wide16.result in
-    let made = tables_of_lem c.row_starts-rows.result _ c.requires.0 c.row_starts-rows.ensures c.lines_of-lines.ensures c.line_counts-counts.ensures c.line_starts-starts.ensures c.crossings-cross.ensures.1 c.wide16.ensures.0 in
+    let end = c.from.result in
+    let listed = t.made.ready.listed in
+    let fits = subst (λ (x : Matrix). valid (pattern_in x) c.args.caps μ ≡ true) (sym c.of-tables.ensures) c.requires.1 in
     record {
-      pattern = P;
       μ = first_marks μ end;
-      starts = _;
-      cross = _;
-      marks = _;
-      by = _;
-      left = _;
-      laid = made.tables.laid;
-      holds = c.kept_of-kept.ensures P c.args.caps made.tables made.every c.requires.1;
-      meets_caps = first-valid c.args.caps μ end made.listed.inside c.requires.1;
-      topped = listed_topped (first_marks μ end) made.listed;
+      holds = c.of-kept.ensures c.args.caps (every_line t _ _ c.lines.ensures c.from.ensures) fits;
+      meets_caps = first-valid c.args.caps μ end listed.inside fits;
+      topped = listed_topped (first_marks μ end) listed;
     }
 
 pub returns : goal.returns
 returns c = λ known takes.
     let a = c.args in
-    let P = pattern_of a.m a.n a.nonzeros a.list.now in
+    let t = c.of-tables.result in
+    let P = pattern_in t.matrix in
     let μ = marking_in a.given.now in
-    let end = c.wide16.result in
-    let made = tables_of_lem c.row_starts-rows.result _ c.requires.0 c.row_starts-rows.ensures c.lines_of-lines.ensures c.line_counts-counts.ensures c.line_starts-starts.ensures c.crossings-cross.ensures.1 c.wide16.ensures.0 in
-    let held = c.kept_of-kept.ensures P a.caps made.tables made.every c.requires.1 in
-    c.evaluate_kept.ensures a.n a.nonzeros μ _ _ made.listed made.tables.laid
-    (holds-given made.listed.inside μ end made.every (λ l b. known l (omega (arith, lines_of a.m a.n a.nonzeros a.list.now))) held)
-    c.requires.1
-    takes
+    let is = sym c.of-tables.ensures in
+    let fits = subst (λ (x : Matrix). valid (pattern_in x) a.caps μ ≡ true) is c.requires.1 in
+    let every = every_line t _ _ c.lines.ensures c.from.ensures in
+    let marks = subst (λ (x : Matrix). (l : ℕ) → l < x.m + x.n → μ l ≤ unmarked) is known in
+    let held = c.of-kept.ensures a.caps every fits in
+    subst
+    (λ (x : Matrix). Evaluates (pattern_in x) a.caps μ a.best c.evaluate.result)
+    c.of-tables.ensures
+    (c.evaluate.ensures μ
+    (holds-given t.made.ready.listed.inside μ c.from.result every (λ l b. marks l (omega (arith, lines_of t.matrix.m t.matrix.n t.matrix.nonzeros t.matrix.list.now))) held)
+    fits
+    (subst (λ (x : Matrix). TakenOf (pattern_in x) μ a.taken) is takes))

@@ -7,56 +7,56 @@ use lib.ListN.{length, get_or}
 use Rattle.keeping.specs.Tied.{near_place}
 use Rattle.keeping.proofs.Turns.{turn_leaves, turn_out, turn_in, turn_enters, turned}
 use Rattle.running.proofs.kinds.set_kind.Goals as goal
-use Rattle.running.proofs.kinds.set_kind.Goals.{After-long16-one}
+use Rattle.running.proofs.kinds.set_kind.Goals.{After-from-one}
 
 -- the place where the numbers of crossing lines of line y have been read
 abbrev NearRead : Type 0
 NearRead =
-    After-long16-one
+    After-from-one
 
 -- they are those of kind 0
 zero_is : (c : NearRead) →
     let a = c.args in
-    c.long16-zero.result ≡ get_or a.tally.now (near_place 0 a.y) 0
+    c.from-zero.result ≡ get_or a.tally.now (near_place 0 a.y) 0
 zero_is c =
     let a = c.args in
     let e : 602 + a.y ≡ near_place 0 a.y = omega arith in
-    c.long16-zero.ensures ∙ ap (λ (i : ℕ). get_or a.tally.now i 0) e
+    c.from-zero.ensures ∙ ap (λ (i : ℕ). get_or a.tally.now i 0) e
 
 -- and of kind 1
 one-is : (c : NearRead) →
     let a = c.args in
-    c.long16-one.result ≡ get_or a.tally.now (near_place 1 a.y) 0
+    c.from-one.result ≡ get_or a.tally.now (near_place 1 a.y) 0
 one-is c =
     let a = c.args in
     let e : 602 + 1024 + a.y ≡ near_place 1 a.y = omega arith in
-    c.long16-one.ensures ∙ ap (λ (i : ℕ). get_or a.tally.now i 0) e
+    c.from-one.ensures ∙ ap (λ (i : ℕ). get_or a.tally.now i 0) e
 
-pub leave-requires : goal.leave-requires
-leave-requires c =
+pub count_line-requires : goal.count_line-requires
+count_line-requires c =
     let a = c.args in
-    turn_leaves c.requires.laid a.kinds.now a.left.now a.y c.long16-zero.result c.long16-one.result c.requires.line (zero_is (goal.at.leave-requires c).After-long16-one) (one-is (goal.at.leave-requires c).After-long16-one) c.requires.tied
+    turn_leaves c.requires.laid a.kinds.now a.left.now a.y c.from-zero.result c.from-one.result c.requires.line (zero_is (goal.at.count_line-requires c).After-from-one) (one-is (goal.at.count_line-requires c).After-from-one) c.requires.tied
 
 pub shift_near-requires : goal.shift_near-requires
 shift_near-requires c =
     let a = c.args in
-    turn_out c.requires.laid a.kinds.now a.left.now a.y c.long16-zero.result c.long16-one.result c.requires.line (zero_is (goal.at.shift_near-requires c).After-long16-one) (one-is (goal.at.shift_near-requires c).After-long16-one) c.requires.tied c.leave.ensures
+    turn_out c.requires.laid a.kinds.now a.left.now a.y c.from-zero.result c.from-one.result c.requires.line (zero_is (goal.at.shift_near-requires c).After-from-one) (one-is (goal.at.shift_near-requires c).After-from-one) c.requires.tied c.count_line.ensures
 
 pub shift_near-requires-2 : goal.shift_near-requires-2
 shift_near-requires-2 c =
     let a = c.args in
-    turn_in c.requires.laid a.kinds.now a.left.now a.y c.long16-zero.result c.long16-one.result c.requires.line (zero_is (goal.at.shift_near-requires-2 c).After-long16-one) (one-is (goal.at.shift_near-requires-2 c).After-long16-one) c.requires.tied c.leave.ensures ((c.shift_near.ensures c.requires.pattern c.requires.laid c.requires.line).1 refl) a.to
+    turn_in c.requires.laid a.kinds.now a.left.now a.y c.from-zero.result c.from-one.result c.requires.line (zero_is (goal.at.shift_near-requires-2 c).After-from-one) (one-is (goal.at.shift_near-requires-2 c).After-from-one) c.requires.tied c.count_line.ensures (c.shift_near.ensures c.requires.pattern c.requires.laid c.requires.line) a.to
 
-pub enter-requires : goal.enter-requires
-enter-requires c =
+pub count_line-requires-2 : goal.count_line-requires-2
+count_line-requires-2 c =
     let a = c.args in
     let P = c.requires.pattern in
-    turn_enters c.requires.laid a.kinds.now a.left.now a.y c.long16-zero.result c.long16-one.result c.requires.line (zero_is (goal.at.enter-requires c).After-long16-one) (one-is (goal.at.enter-requires c).After-long16-one) c.requires.tied c.leave.ensures ((c.shift_near.ensures P c.requires.laid c.requires.line).1 refl) a.to ((c.shift_near-2.ensures P c.requires.laid c.requires.line).0 refl)
+    turn_enters c.requires.laid a.kinds.now a.left.now a.y c.from-zero.result c.from-one.result c.requires.line (zero_is (goal.at.count_line-requires-2 c).After-from-one) (one-is (goal.at.count_line-requires-2 c).After-from-one) c.requires.tied c.count_line.ensures (c.shift_near.ensures P c.requires.laid c.requires.line) a.to (c.shift_near-2.ensures P c.requires.laid c.requires.line)
 
 pub returns : goal.returns
 returns c =
     let a = c.args in
     let long : a.y < length a.kinds.now = omega (arith, c.requires.kinds_long, c.requires.line, c.requires.laid.few) in (
       refl,
-      λ P laid line tied. turned laid a.kinds.now a.left.now a.y c.long16-zero.result c.long16-one.result line (zero_is (goal.at.returns c).After-long16-one) (one-is (goal.at.returns c).After-long16-one) tied c.leave.ensures ((c.shift_near.ensures P laid line).1 refl) a.to ((c.shift_near-2.ensures P laid line).0 refl) long c.enter.ensures,
+      λ P laid line tied. turned laid a.kinds.now a.left.now a.y c.from-zero.result c.from-one.result line (zero_is (goal.at.returns c).After-from-one) (one-is (goal.at.returns c).After-from-one) tied c.count_line.ensures (c.shift_near.ensures P laid line) a.to (c.shift_near-2.ensures P laid line) long c.count_line-2.ensures,
     )

@@ -6,7 +6,9 @@ use Rattle.running.proofs.presenting.show_split.Goals as goal
 
 pub returns : goal.returns
 returns c =
-    let t = c.lines_of in
+    let t = c.lines in
     let a = c.args in
-    let parts = parts_shown a.m a.n a.nonzeros a.list.now a.places.now a.starts.now a.caps t.result a.best c.cleared-kept.result c.marks_by_line-by_line.result a.parts.now _ c.taken_of-taken.result c.cleared-kept.ensures t.ensures c.marks_by_line-by_line.ensures (c.taken_of-taken.ensures a.n) c.write_split.ensures in
-    let volume = volume-shown a.m a.n a.nonzeros a.list.now a.places.now a.starts.now a.caps t.result a.best c.cleared-kept.result c.marks_by_line-by_line.result a.parts.now _ c.taken_of-taken.result c.cleared-kept.ensures t.ensures c.marks_by_line-by_line.ensures (c.taken_of-taken.ensures a.n) c.write_split.ensures in record { volume = λ listed placed short room. volume listed placed short c.volume_of.result room (c.volume_of.ensures (listed_few listed)); parts = λ listed placed short. parts listed placed short }
+    let x = a.tables.now.matrix in
+    let ready = a.tables.now.made.ready in
+    let parts = parts_shown x.m x.n x.nonzeros x.list.now a.tables.now.places a.tables.now.rows a.caps t.result a.best c.cleared.result c.marks_by_line-by_line.result a.parts.now _ c.taken_of-taken.result c.cleared.ensures t.ensures c.marks_by_line-by_line.ensures c.taken_of-taken.ensures c.write_split.ensures in
+    let volume = volume-shown x.m x.n x.nonzeros x.list.now a.tables.now.places a.tables.now.rows a.caps t.result a.best c.cleared.result c.marks_by_line-by_line.result a.parts.now _ c.taken_of-taken.result c.cleared.ensures t.ensures c.marks_by_line-by_line.ensures c.taken_of-taken.ensures c.write_split.ensures in record { volume = λ short room. volume ready.listed ready.placed short c.volume_of.result room (c.volume_of.ensures (listed_few ready.listed)); parts = λ short. parts ready.listed ready.placed short }

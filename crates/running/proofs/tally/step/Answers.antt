@@ -1,16 +1,26 @@
 -- `running::tally::step` meets its contract.
 -- Assumes nothing.
-use Rattle.counting.proofs.Joined.{clash}
+use native.Mathlib.Omega.{arith}
+use Rattle.keeping.proofs.Raises.{raised_by-store, lowered_by-store}
 use Rattle.running.proofs.tally.step.Goals as goal
 
-pub count_in-requires : goal.count_in-requires
-count_in-requires c = let q = c.requires in (q.0, q.1, q.2 c.if-up.true)
+pub overflow_add-tally : goal.overflow_add-tally
+overflow_add-tally c =
+    let room = rw c.if-up.true at c.requires.2 in
+    omega arith
 
-pub count_out-requires : goal.count_out-requires
-count_out-requires c = let q = c.requires in (q.0, q.1, q.3 c.if-up.false)
+pub overflow_sub-tally : goal.overflow_sub-tally
+overflow_sub-tally c =
+    let some = rw c.if-up.false at c.requires.2 in
+    omega arith
 
 pub returns-then-up : goal.returns-then-up
-returns-then-up c = (λ up. c.count_in.ensures, λ down. clash c.if-up.true down)
+returns-then-up c =
+    let a = c.args in
+    rw c.if-up.true (raised_by-store a.tally.now a.at 1 (omega (arith, c.requires.0, c.requires.1)))
 
 pub returns-else-up : goal.returns-else-up
-returns-else-up c = (λ up. clash up c.if-up.false, λ down. c.count_out.ensures)
+returns-else-up c =
+    let a = c.args in
+    let some = rw c.if-up.false at c.requires.2 in
+    rw c.if-up.false (lowered_by-store a.tally.now a.at 1 (omega (arith, c.requires.0, c.requires.1)) some)

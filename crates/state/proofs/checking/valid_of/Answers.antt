@@ -7,20 +7,20 @@ pub returns : goal.returns
 returns c =
     let a = c.args in
     valid_cleared
-    a.m
-    a.n
-    a.nonzeros
-    a.list.now
+    a.matrix.now.m
+    a.matrix.now.n
+    a.matrix.now.nonzeros
+    a.matrix.now.list.now
     a.places.now
     c.marks_by_line-by_line.result
-    c.lines_of.result
+    c.lines.result
     a.caps
     a.trail
-    c.cleared-kept.result
+    c.cleared.result
     c.taken_of.result
     c.is_valid.result
-    c.cleared-kept.ensures
-    c.lines_of.ensures
+    c.cleared.ensures
+    c.lines.ensures
     c.marks_by_line-by_line.ensures
-    (c.taken_of.ensures a.n)
+    c.taken_of.ensures
     c.is_valid.ensures

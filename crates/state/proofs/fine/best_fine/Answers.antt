@@ -1,19 +1,17 @@
--- `state::best_fine` meets its contract.
+-- `state::fine::best_fine` meets its contract.
 -- Assumes nothing.
-use mathlib.Core.Bool.{not}
-use mathlib.Core.Path.{sym, ◌∙◌, ap}
-use Rattle.counting.proofs.Joined.{pick_true, pick-false, and_fails_left, and_passed}
+use Rattle.counting.specs.Tests.{◌and◌, pick}
 use Rattle.state.specs.StateBy.{best_by}
 use Rattle.state.proofs.fine.best_fine.Goals as goal
 
 pub returns-then-search : goal.returns-then-search
-unfolding best_by
-returns-then-search c = c.full_fine.ensures ∙ sym (pick_true _ _ c.if-search.true)
+unfolding best_by pick
+returns-then-search c = simp (c.if-search.true, c.full_fine.ensures, c.from.ensures)
 
-pub returns-then-search-2 : goal.returns-then-search-2
-unfolding best_by
-returns-then-search-2 c = sym (pick-false _ _ c.if-search.false ∙ and_fails_left _ (ap not c.if-search-2.true))
+pub returns-then-not-search : goal.returns-then-not-search
+unfolding best_by pick ◌and◌
+returns-then-not-search c = simp (c.if-search.false, c.if-not-search.true, c.from-then-not-search.ensures)
 
-pub returns : goal.returns
-unfolding best_by
-returns c = sym (pick-false _ _ c.if-search.false ∙ and_passed _ (ap not c.if-search-2.false))
+pub returns-else-not-search : goal.returns-else-not-search
+unfolding best_by pick ◌and◌
+returns-else-not-search c = simp (c.if-search.false, c.if-not-search.false)

@@ -1,4 +1,4 @@
--- `state::full_fine` meets its contract.
+-- `state::fine::full_fine` meets its contract.
 -- Assumes nothing.
 use borrow.Author.Tests.{eq-eqb}
 use mathlib.Core.Path.{◌≡◌, sym, ◌∙◌}
@@ -13,7 +13,7 @@ returns-then-are_marks c =
     let whole : c.args.best.len ≡ c.args.k = omega arith in
     simp (
       eq-eqb _ _ whole,
-      c.if-valid.true,
+      c.if-not-valid.false,
       sym c.are_marks.ensures ∙ c.if-are_marks.true,
       c.cuts_before.ensures,
     )
@@ -24,12 +24,7 @@ returns-else-are_marks c =
     let whole : c.args.best.len ≡ c.args.k = omega arith in
     simp (
       eq-eqb _ _ whole,
-      c.if-valid.true,
+      c.if-not-valid.false,
       sym c.are_marks.ensures ∙ c.if-are_marks.false,
+      c.if-are_marks.false,
     )
-
-pub returns-else-valid : goal.returns-else-valid
-unfolding full_by ◌and◌
-returns-else-valid c =
-    let whole : c.args.best.len ≡ c.args.k = omega arith in
-    simp (eq-eqb _ _ whole, c.if-valid.false)

@@ -9,6 +9,6 @@ pub returns-then-found : goal.returns-then-found
 unfolding best_to
 returns-then-found c = c.cleared.ensures ∙ sym (pick_true _ _ c.if-found.true)
 
-pub returns : goal.returns
+pub returns-else-found : goal.returns-else-found
 unfolding best_to
-returns c = c.no_trail.ensures ∙ sym (pick-false _ _ c.if-found.false)
+returns-else-found c = c.no_trail.ensures ∙ sym (pick-false _ _ c.if-found.false)

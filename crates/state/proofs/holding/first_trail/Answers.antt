@@ -10,4 +10,4 @@ use Rattle.state.proofs.holding.first_trail.Goals as goal
 
 pub returns : goal.returns
 returns c =
-    c.append.ensures ∙ ap (λ (t : Trail). appended t 0) c.no_trail-empty.ensures ∙ appended-is 0 [] (omega arith)
+    c.append.ensures ∙ ap (λ (t : Trail). appended t 0) c.no_trail.ensures ∙ appended-is 0 [] (omega arith)

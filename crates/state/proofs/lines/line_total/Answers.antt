@@ -9,12 +9,12 @@ pub returns : goal.returns
 returns c few =
     let a = c.args in
     total_of_counts
-    a.m
-    a.n
-    a.nonzeros
-    a.list.now
+    a.matrix.now.m
+    a.matrix.now.n
+    a.matrix.now.nonzeros
+    a.matrix.now.list.now
     c.line_counts-counts.result
     c.total_of.result
     few
     c.line_counts-counts.ensures.1
-    (c.total_of.ensures ∙ ap (total_by c.line_counts-counts.result) c.lines_of.ensures)
+    (c.total_of.ensures ∙ ap (total_by c.line_counts-counts.result) c.lines.ensures)

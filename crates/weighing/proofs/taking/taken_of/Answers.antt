@@ -1,54 +1,44 @@
-use mathlib.Core.Path.{refl}
+use mathlib.Core.Path.{◌≡◌, refl, sym, ◌∙◌}
+use Prim.Native.Nat.{◌+◌}
 use native.Mathlib.Omega.{arith}
-use Rattle.counting.proofs.Joined.{bit_le_one}
+use Rattle.counting.specs.Tests.{◌and◌}
+use Rattle.counting.proofs.Joined.{bit_le_one, and_passed, and_fails_left}
 use Rattle.model.specs.declared.Part.TheVariants.{Zero, One}
-use Rattle.model.specs.Pattern.{pattern_of}
+use Rattle.model.specs.Pattern.{column_in, pattern_of}
+use Rattle.pattern.specs.Matrix.{pattern_in}
 use Rattle.weighing.specs.Cells.{marking_in}
-use Rattle.weighing.proofs.Taken.{takes_code, taken_start, taken_more, taken_end, taken_small}
+use Rattle.weighing.proofs.Taken.{takes_code, byte_bit, either_or, taken_start, taken_more, taken_end, taken_small}
 use Rattle.weighing.proofs.taking.taken_of.Goals as goal
+use Rattle.weighing.proofs.taking.taken_of.Goals.{then-first, else-first}
 
 pub loop-t-init : goal.loop-t-init
-loop-t-init c =
-    let a = c.args in
-    (omega arith, λ n. taken_start (pattern_of a.m n a.nonzeros a.list.now) (marking_in a.marks.now))
+loop-t-init c = taken_start (pattern_in c.args.matrix.now) (marking_in c.args.marks.now)
 
 pub overflow_add-zero : goal.overflow_add-zero
 overflow_add-zero c =
-    omega (
-      arith,
-      (taken_small (c.loop-t.invariant.1 0)).0,
-      c.bit_of-zero.ensures,
-      bit_le_one c.takes_by-first.result,
-    )
+    omega (arith, (taken_small c.loop-t.invariant).0, byte_bit c.takes_by-first.result, bit_le_one c.takes_by-first.result)
 
 pub overflow_add-one : goal.overflow_add-one
 overflow_add-one c =
-    omega (
-      arith,
-      (taken_small (c.loop-t.invariant.1 0)).1,
-      c.bit_of-one.ensures,
-      bit_le_one c.takes_by-second.result,
-    )
-
-pub overflow_add-t : goal.overflow_add-t
-overflow_add-t c = omega arith
-
-pub loop-t-smaller : goal.loop-t-smaller
-loop-t-smaller c = omega arith
+    omega (arith, (taken_small c.loop-t.invariant).1, byte_bit c.takes_by-second.result, bit_le_one c.takes_by-second.result)
 
 pub loop-t-preserved : goal.loop-t-preserved
-loop-t-preserved c = (
-  omega arith,
-  λ n. taken_more
-      (c.loop-t.invariant.1 n)
-      (takes_code _ n _ _ _ Zero _ _ _ 0 _ c.row_of-row.ensures c.column_of-column.ensures refl c.takes_by-first.ensures)
-      (takes_code _ n _ _ _ One _ _ _ 1 _ c.row_of-row.ensures c.column_of-column.ensures refl c.takes_by-second.ensures)
-      c.bit_of-zero.ensures
-      c.bit_of-one.ensures
-      c.both_of.ensures
-      c.either_of-both.ensures,
-)
+loop-t-preserved c =
+    let first = c.takes_by-first.result in
+    let second = c.takes_by-second.result in
+    let row = c.from-row.ensures ∙ c.row_of.ensures in
+    let column : c.from-rows.result + c.from.result ≡ c.args.matrix.now.m + column_in c.args.matrix.now.list.now c.loop-t.t = omega arith in
+    let twice : c.if-first.both ≡ first and second =
+    elim c.if-first.branch [ then-first w ↦ w.both-is ∙ sym (and_passed second w.if-first.true) | else-first w ↦ w.both-is ∙ w.if-first.false ∙ sym (and_fails_left second w.if-first.false) ] in
+    taken_more
+    c.loop-t.invariant
+    (takes_code _ _ _ _ _ Zero _ _ _ 0 _ row column refl c.takes_by-first.ensures)
+    (takes_code _ _ _ _ _ One _ _ _ 1 _ row column refl c.takes_by-second.ensures)
+    (c.from-in-loop-t.ensures ∙ byte_bit first)
+    (c.from-in-loop-t-2.ensures ∙ byte_bit second)
+    twice
+    (either_or c.loop-t.both c.if-first.both)
 
 pub returns : goal.returns
 unfolding pattern_of
-returns c = λ n. taken_end (omega arith) (c.loop-t.invariant.1 n)
+returns c = taken_end (omega arith) c.loop-t.invariant

@@ -1,15 +1,18 @@
 -- `writing::write` meets its contract.
 -- Assumes nothing.
-use mathlib.Core.Path.{sym, ◌∙◌}
-use native.Mathlib.Omega.{arith}
-use Rattle.writing.proofs.Answers.{write_nonzeros, write_answer-is, write_out-is, write_refused, write_out_kept, write_told}
+use mathlib.Core.Path.{◌∙◌}
+use Rattle.std.proofs.lemmas.Result.{err_from_is_err_and}
+use Rattle.writing.proofs.Answers.{write_made, write_stopped, write_told}
 use Rattle.writing.proofs.write.write.Goals as goal
 
-pub overflow_cast-nonzeros : goal.overflow_cast-nonzeros
-overflow_cast-nonzeros c = omega (arith, write_nonzeros _ _ _ _ _ (sym c.write_verdict-verdict.ensures ∙ c.in-Accepted.is))
+pub returns-in_err-write_verdict : goal.returns-in_err-write_verdict
+returns-in_err-write_verdict c =
+    let p = err_from_is_err_and c.from_residual.result c.from_residual.ensures.1 in
+    let stopped = write_stopped _ _ _ _ _ _ _ _ c.write_verdict.ensures _ c.in_err-write_verdict.was in
+    let answer = p.1 ∙ rw p.2 stopped.0 in
+    record { answer = answer; out = stopped.1; reply = write_told _ _ _ _ _ _ _ answer }
 
-pub returns-in-Accepted : goal.returns-in-Accepted
-returns-in-Accepted c = let v = c.write_verdict-verdict.ensures in let a = c.in-Accepted.is in let r = c.write_text.ensures in let q = write_answer-is _ _ _ _ _ _ _ _ v _ a r.answer in record { answer = q; out = write_out-is _ _ _ _ _ _ _ _ v _ a r.out; reply = write_told _ _ _ _ _ _ _ q }
-
-pub returns-in-Refused : goal.returns-in-Refused
-returns-in-Refused c = let v = c.write_verdict-verdict.ensures in let a = c.in-Refused.is in let q = write_refused _ _ _ _ _ _ _ _ v _ _ a in record { answer = q; out = write_out_kept _ _ _ _ _ _ _ _ v _ _ a; reply = write_told _ _ _ _ _ _ _ q }
+pub returns : goal.returns
+returns c =
+    let made = write_made _ _ _ _ _ _ _ _ c.write_verdict.ensures c.in_ok-write_verdict.was c.write_text.ensures.answer c.write_text.ensures.out in
+    record { answer = made.0; out = made.1; reply = write_told _ _ _ _ _ _ _ made.0 }

@@ -1,15 +1,12 @@
 -- `writing::write::lines::put_refused` meets its contract.
 -- Assumes nothing.
 use native.Mathlib.Omega.{arith}
-use Rattle.writing.proofs.Puttings.{ends_within, figure_short}
-use Rattle.writing.proofs.Lines.{puts_refused}
+use Rattle.writing.specs.Lines.{refused_text}
+use Rattle.writing.proofs.Pages.{adds_then, adds_first}
 use Rattle.writing.proofs.write.lines.put_refused.Goals as goal
 
-pub put_bytes-b-requires : goal.put_bytes-b-requires
-put_bytes-b-requires c = (omega (arith, ends_within (figure_short _ _) c.put_figure-a.ensures), omega arith)
-
-pub put_number-requires : goal.put_number-requires
-put_number-requires c = omega (arith, c.put_bytes-b.ensures.after, ends_within (figure_short _ _) c.put_figure-a.ensures)
-
 pub returns : goal.returns
-returns c = puts_refused _ _ c.refusal_number-number.ensures c.put_figure-a.ensures c.put_bytes-b.ensures c.put_number.ensures
+unfolding refused_text
+returns c =
+    let all = adds_then c.put_figure.ensures (adds_then c.put_bytes.ensures c.put_number.ensures) in
+    grind (arith, adds_first)

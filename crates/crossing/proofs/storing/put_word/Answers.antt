@@ -1,8 +1,0 @@
--- `crossing::put_word` meets its contract. Past the end of an array a store changes nothing.
--- Assumes nothing.
-use mathlib.Core.Path.{sym}
-use lib.Seq.{set_out}
-use Rattle.crossing.proofs.storing.put_word.Goals as goal
-
-pub returns-else-at-words : goal.returns-else-at-words
-returns-else-at-words c = sym (set_out _ _ _ c.if-at-words.false)

@@ -1,9 +1,0 @@
--- `packing::no_marks` meets its contract.
--- Assumes nothing.
-use mathlib.Core.Path.{refl}
-use Rattle.model.specs.State.{array_of}
-use Rattle.packing.proofs.no_marks.Goals as goal
-
-pub returns : goal.returns
-unfolding array_of
-returns c = refl
