@@ -23,7 +23,7 @@ use Rattle.texts.specs.Reading.{read_call, read_list}
 use Rattle.answering.specs.declared.Command.{Command}
 use Rattle.answering.specs.FirstLine.{command_of}
 use Rattle.answering.specs.Answer.{list_room, parts_room, figures_of, after_showing, search_answer, after_run, ran_answer, opened_answer, after_cap, after_line, answer_to}
-use Rattle.answering.specs.CapShown.{BothCutOff, ShowsCap}
+use Rattle.answering.specs.CapShown.{BothCutOff, ShowsCap, CapShown}
 use Rattle.answering.proofs.Steps.{text_read, line_right}
 
 module _ (m n nonzeros : ℕ) (list : List ℕ) (percent budget : ℕ) where
@@ -63,11 +63,11 @@ module _ (m n nonzeros : ℕ) (list : List ℕ) (percent budget : ℕ) where
   capped_so (Err refusal) e = tt
 
 -- the answer to an input whose first line is right and whose text is read
-pub cap_shown :
+cap_shown_by :
     (input : List ℕ) (command : Command) (m n nonzeros : ℕ) (integer : Bool) → command_of input ≡ Some command →
     read_call (drop command.next input) list_room parts_room ≡ read_as m n nonzeros integer →
     ShowsCap nonzeros command.percent (answer_to input)
-cap_shown input o m n nonzeros integer line e =
+cap_shown_by input o m n nonzeros integer line e =
     let text = drop o.next input in
     subst
     (ShowsCap nonzeros o.percent)
@@ -75,8 +75,16 @@ cap_shown input o m n nonzeros integer line e =
     (capped_so m n nonzeros (read_list text list_room parts_room) o.percent o.budget (cap_call nonzeros o.percent) refl)
 
 -- the answer to an input whose first line is another is a refusal, which shows no cap
-pub no_cap_shown :
+no_cap_shown :
     (input : List ℕ) (nonzeros percent : ℕ) → command_of input ≡ None → ShowsCap nonzeros percent (answer_to input)
 unfolding answer_to after_line
 no_cap_shown input nonzeros percent e =
     subst (λ (o : Option Command). ShowsCap nonzeros percent (after_line o input)) (sym e) tt
+
+-- the answer to any input
+pub cap_shown : (input : List ℕ) → CapShown input (command_of input)
+cap_shown input = by_line (command_of input) refl
+  where
+    by_line : (line : Option Command) → command_of input ≡ line → CapShown input line
+    by_line (Some command) e = λ m n nonzeros integer reads. cap_shown_by input command m n nonzeros integer e reads
+    by_line None e = λ nonzeros percent. no_cap_shown input nonzeros percent e

@@ -2,23 +2,39 @@
 -- Assumes nothing.
 use mathlib.Core.List.{List}
 use mathlib.Core.Path.{◌≡◌, sym, ◌∙◌, ap}
-use Prim.Native.Nat.{ℕ, suc, ◌≤◌, ◌<◌}
+use Prim.Native.Nat.{ℕ, zero, suc, ◌≤◌, ◌<◌}
 use native.Mathlib.Omega.{arith}
 use lib.Dec.{eqb}
 use borrow.Author.Tests.{eqb-true}
 use Rattle.counting.specs.Tests.{pick}
-use Rattle.counting.proofs.Joined.{by_test, pick_true, pick-false}
+use Rattle.counting.proofs.Joined.{by_test, pick_true, pick-false, bit_le_one}
 use Rattle.model.specs.declared.Part.TheVariants.{Zero, One}
 use Rattle.model.specs.Pattern.{pattern_of}
 use Rattle.model.specs.Marking.{Marking}
 use Rattle.model.specs.Bound.{L4}
-use Rattle.model.specs.Matching.{Tally, looks, conflicts}
+use Rattle.model.specs.Matching.{Tally, start_from, counted, starts_from, looks, conflicts}
 use Rattle.model.proofs.Matching.Searched.{search_is-L4}
 use Rattle.model.proofs.Matching.Looks.{no_conflicts, no_looks}
 use Rattle.matching.specs.declared.augmenting.Matching.{Matching}
-use Rattle.matching.specs.Augmenting.{ground_of, matching_in}
+use Rattle.matching.specs.Augmenting.{Ground, ground_of, columns_in, searched, matching_in, side_room}
 use Rattle.matching.proofs.Conflicts.{Arrays, searched-is}
 use Rattle.bound.specs.Evaluated.{Listed, LeansAt, no_matching}
+
+-- each row adds at most one successful start
+starts_most : (columns : ℕ → List ℕ) (n i : ℕ) → (starts_from columns n i).size ≤ i
+unfolding starts_from counted
+starts_most columns n zero = omega arith
+starts_most columns n (suc i) =
+    omega (
+      arith,
+      starts_most columns n i,
+      bit_le_one (start_from columns n i (starts_from columns n i).mate).found,
+    )
+
+-- so the matching has at most as many conflicts as there are rows
+pub search_most : (G : Ground) → (matching_in G).size ≤ G.m
+unfolding matching_in searched
+search_most G = starts_most (columns_in G) side_room G.m
 
 -- its rows rise
 rows_rise :

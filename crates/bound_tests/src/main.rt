@@ -2,7 +2,7 @@
 // bounds, with looks. Its input has the cases.
 #![tactic(auto)]
 
-use input::read_full;
+use input::read_so_far;
 use marking::marks::unmarked_lines;
 use model::Caps;
 use running::evaluating::{Evaluation, evaluate_lines};
@@ -11,6 +11,7 @@ use testing::Kind;
 use testing::cases::{Cases, each_case};
 use testing::laying::{first, lay_marks};
 use testing::patterns::Pattern;
+use testing::unfailing::Unfailing;
 use trail::MARK_ROOM;
 
 // A count that no bound reaches, so that the least of it and a bound is the bound.
@@ -89,11 +90,12 @@ fn answer(rt: &impl Print, kind: u8, cases: &mut Cases<'_>, given: &mut Given) -
 // Reads the cases and answers each of them in turn.
 fn main(rt: HostRuntime) -> io::Result<()> {
     let mut page = [0u8; 16384];
-    let len = read_full(&mut rt.reader(), &mut page)?;
+    let len = read_so_far(&mut rt.reader(), &mut page);
+    let out = Unfailing(&rt);
     let mut start = Cases { text: &page, at: 0 };
     start.kind();
     let mut given = Given::read(&mut start);
     each_case(&page, len, |kind, cases| {
-        answer(&rt, kind, cases, &mut given)
+        answer(&out, kind, cases, &mut given)
     })
 }

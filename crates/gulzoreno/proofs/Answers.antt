@@ -15,8 +15,8 @@ use Rattle.model.specs.Refusal.{accepted, refuse, ◌then◌}
 use Rattle.model.specs.Pattern.{pattern_of}
 use Rattle.model.specs.Walk.{fresh_of}
 use Rattle.model.specs.State.{search_of}
-use Rattle.model.specs.Calls.{open_call, run_call}
-use Rattle.model.proofs.Theorems.Checks.{refuse_either, then_assoc, refused_by, answered_by}
+use Rattle.model.specs.Calls.{open_call, opened_search, run_call}
+use Rattle.model.proofs.Theorems.Checks.{refuse_either, then_accepted, then_assoc, then-first, refused_by, answered_by}
 use Rattle.gulzoreno.specs.Figures.{figures_bytes}
 use Rattle.gulzoreno.specs.Host.{output_verdict, host_verdict, host_search}
 
@@ -61,5 +61,8 @@ module _ (m n nonzeros : ℕ) (list : List ℕ) (caps : Caps) (budget : ℕ) (pa
       {search : Search} → Opened ≡ Ok search →
       (host_verdict m n nonzeros list caps budget parts figures ≡ accepted)
       × (host_search m n nonzeros list caps budget ≡ (run_call search m n nonzeros list budget).search)
-  unfolding host_search
-  taken e = let p = answered_by _ _ e in (p.0, ap (λ (s : Search). (run_call s m n nonzeros list budget).search) p.1)
+  unfolding host_search host_verdict open_call
+  taken e =
+      let p = answered_by _ _ e in
+      let fresh = then_accepted (Ok (search_of (fresh_of (pattern_of m n nonzeros list) caps))) (then-first _ _ p.0) in
+      (p.0, ap (λ (s : Search). (run_call s m n nonzeros list budget).search) (ap opened_search fresh ∙ p.1))

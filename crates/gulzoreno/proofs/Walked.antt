@@ -19,9 +19,9 @@ use Rattle.model.specs.declared.Shown.{Shown}
 use Rattle.model.specs.Limits.{budget_limit}
 use Rattle.model.specs.Refusal.{Verdict, accepted, refuse}
 use Rattle.model.specs.Pattern.{Pattern, pattern_of}
-use Rattle.model.specs.Walk.{Record, walked}
+use Rattle.model.specs.Walk.{Record, fresh_of, walked}
 use Rattle.model.specs.State.{search_of}
-use Rattle.model.specs.Calls.{list_verdict, open_verdict, show_verdict, show_call, show_parts, show_code}
+use Rattle.model.specs.Calls.{list_verdict, open_verdict, show_verdict, opened_search, run_call, show_call, show_parts, show_code}
 use Rattle.model.proofs.Theorems.Checks.{then-first, then-second, refuse-not}
 use Rattle.model.proofs.Theorems.Accepted.{open_accepted}
 use Rattle.search.specs.Demand.{Demand, ShowAnswered}
@@ -71,10 +71,18 @@ module _
   pub figures_long : figures_bytes ≤ length figures
   figures_long = ltb-false (length figures) figures_bytes (or_fails_right (ltb (length parts) nonzeros) (ltb (length figures) figures_bytes) long)
 
+  -- the search that is run is the fresh one
+  fresh_run :
+      host_search m n nonzeros list caps budget ≡ (run_call (search_of (fresh_of P caps)) m n nonzeros list budget).search
+  unfolding host_search
+  fresh_run =
+      ap
+      (λ (o : Result Search Refusal). (run_call (opened_search o) m n nonzeros list budget).search)
+      (one-run.opens_call m n nonzeros list caps budget opens)
+
   -- the run and the showing
   pub at_end : Demand m n nonzeros list caps (host_search m n nonzeros list caps budget) budget
-  unfolding host_search
-  at_end = one-run.at_end m n nonzeros list caps budget opens within_budget
+  at_end = rw fresh_run (one-run.at_end m n nonzeros list caps budget opens within_budget)
 
   abbrev pub Told : Result Shown Refusal
   Told = show_call (host_search m n nonzeros list caps budget) m n nonzeros list parts
@@ -84,8 +92,7 @@ module _
 
   pub told :
       ShowAnswered P caps (after budget) (show_verdict (after budget) m n nonzeros list parts) parts Told Left
-  unfolding host_search
-  told = one-run.told m n nonzeros list caps budget opens within_budget parts
+  told = rw fresh_run (one-run.told m n nonzeros list caps budget opens within_budget parts)
 
   -- the answer, the parts and the figures are those of this showing
   pub code_is : bipartition_code m n nonzeros list caps budget parts figures ≡ show_code Told

@@ -10,10 +10,7 @@ use Rattle.model.specs.declared.Shown.{Shown}
 use Rattle.model.specs.declared.Shown.TheVariants as showing
 use Rattle.model.specs.Limits.{budget_limit}
 use Rattle.model.specs.Refusal.{Verdict, refusal_code, refuse, ◌then◌}
-use Rattle.model.specs.Pattern.{pattern_of}
-use Rattle.model.specs.Walk.{fresh_of}
-use Rattle.model.specs.State.{search_of}
-use Rattle.model.specs.Calls.{open_verdict, run_call, show_call, show_parts, show_code}
+use Rattle.model.specs.Calls.{open_verdict, open_call, opened_search, run_call, show_call, show_parts, show_code}
 use Rattle.gulzoreno.specs.Figures.{figures_bytes, with_figures}
 
 -- the checks after the opening: the budget (13), the tries being 0; then the output slices (9)
@@ -27,10 +24,10 @@ unfoldable pub host_verdict : ℕ → ℕ → ℕ → List ℕ → Caps → ℕ 
 host_verdict m n nonzeros list caps budget parts figures =
     open_verdict m n nonzeros list caps then output_verdict nonzeros budget parts figures
 
--- the search after an accepted opening and one run
+-- the search after an opening and one run
 unfoldable pub host_search : ℕ → ℕ → ℕ → List ℕ → Caps → ℕ → Search
 host_search m n nonzeros list caps budget =
-    (run_call (search_of (fresh_of (pattern_of m n nonzeros list) caps)) m n nonzeros list budget).search
+    (run_call (opened_search (open_call m n nonzeros list caps)) m n nonzeros list budget).search
 
 -- the answer after this verdict, by what is shown: 0, or 255 for "none yet", or a refusal as number + 256 × place
 unfoldable pub host_code_after : Verdict → Result Shown Refusal → ℕ

@@ -6,7 +6,7 @@ use testing::saying::say_field;
 
 // Makes the call of a case.
 pub(crate) fn call(rt: &impl Print, cases: &mut Cases<'_>) -> io::Result<()> {
-    say_field(rt, cases)?;
+    say_field(rt, cases);
     let call = Call {
         pattern: cases.pattern(),
         caps: cases.caps(),

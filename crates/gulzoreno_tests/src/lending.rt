@@ -38,8 +38,8 @@ fn say_answer(rt: &impl Print, answer: u64, parts: &[u8], figures: &[u8]) -> io:
         answer % 256,
         answer / 256
     )?;
-    say_bytes(rt, " parts", parts)?;
-    say_bytes(rt, " figures", figures)?;
+    say_bytes(rt, " parts", parts);
+    say_bytes(rt, " figures", figures);
     println!(rt)
 }
 

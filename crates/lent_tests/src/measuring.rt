@@ -14,7 +14,10 @@ fn say_measured(rt: &impl Print, words: &str, measured: Result<u64, Refusal>) ->
     print!(rt; "{words}")?;
     match measured {
         Ok(value) => print!(rt; " {value}"),
-        Err(refusal) => say_refused(rt, refusal),
+        Err(refusal) => {
+            say_refused(rt, refusal);
+            Ok(())
+        }
     }
 }
 
@@ -33,7 +36,7 @@ fn measure(rt: &impl Print, pattern: &Pattern, parts: &[u8]) -> io::Result<()> {
 // The measures of a split that a case gives.
 pub(crate) fn measure_case(rt: &impl Print, cases: &mut Cases<'_>) -> io::Result<()> {
     let mut parts = [0u8; PART_ROOM];
-    say_field(rt, cases)?;
+    say_field(rt, cases);
     let pattern = cases.pattern();
     let parted = cases.field(Kind::Numbers, &mut parts);
     measure(rt, &pattern, first(&parts, parted))

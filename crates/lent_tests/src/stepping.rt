@@ -2,16 +2,16 @@
 use crate::lending::{lend, run_beside};
 use model::limits::LIST_ROOM;
 use model::{Ran, Search};
+use state::holding::no_search;
 use std::io;
 use testing::cases::Cases;
 use testing::patterns::Pattern;
 use testing::saying::{say_field, say_run};
-use testing::searches::NO_SEARCH;
 use trail::MARK_ROOM;
 
 // The answer and the tries of a run, and whether another one has the same answer and the same search.
 fn say_both(rt: &impl Print, first: &Ran, second: &Ran) -> io::Result<()> {
-    say_run(rt, first.answer)?;
+    say_run(rt, first.answer);
     let tries = first.search.tries;
     let answer = if first.answer == second.answer {
         "same"
@@ -44,17 +44,20 @@ pub(crate) fn step_case(
     cases: &mut Cases<'_>,
     search: &mut Search,
 ) -> io::Result<()> {
-    say_field(rt, cases)?;
+    say_field(rt, cases);
     let pattern = cases.pattern();
     let budget = cases.number();
     *search = step(rt, *search, &pattern, budget)?;
     Ok(())
 }
 
-// The 3 by 2 pattern that is searched.
+// The list of the 3 by 2 pattern that is searched.
+const SAMPLE: [u8; 16] = [0, 0, 0, 0, 0, 0, 1, 0, 1, 0, 0, 0, 2, 0, 1, 0];
+
+// The pattern.
 fn sample() -> Pattern {
     let mut room = [0u8; LIST_ROOM];
-    room[..16].copy_from_slice(&[0, 0, 0, 0, 0, 0, 1, 0, 1, 0, 0, 0, 2, 0, 1, 0]);
+    room[..16].copy_from_slice(&SAMPLE);
     Pattern {
         m: 3,
         n: 2,
@@ -66,7 +69,7 @@ fn sample() -> Pattern {
 
 // A fresh search of the pattern.
 pub(crate) fn fresh() -> Search {
-    search::open(3, 2, 4, sample().list(), 2, 2).unwrap_or(NO_SEARCH)
+    search::open(3, 2, 4, &SAMPLE, 2, 2).unwrap_or(no_search())
 }
 
 // A run with this budget, and a try, on the pattern's list.

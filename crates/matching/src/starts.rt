@@ -1,6 +1,6 @@
 // Where the nonzeros of each row start in the list.
 ghost use Rattle.std.specs.Prelude.{◌≡◌, ℕ, ◌≤◌, ◌<◌, length, get_or};
-ghost use Rattle.pattern.specs.Matrix.{pattern_in};
+ghost use Rattle.model.specs.Pattern.{pattern_of};
 ghost use Rattle.matching.specs.Starts.{side_room, side_ends, row_start, row_count, no_starts};
 
 use model::limits::{SIDE_ENDS, SIDE_ROOM};
@@ -31,7 +31,8 @@ fn row_counts(matrix: &Matrix<'_>) -> [u16; SIDE_ENDS]
 
 /// The number of nonzeros before each row, for any numbers of rows and columns.
 pub fn row_starts(matrix: &Matrix<'_>) -> [u16; SIDE_ENDS]
-    ensures { (i : ℕ) → i ≤ side_room → get_or result i 0 ≡ row_start (pattern_in matrix.now) i }
+    ensures { (m n i : ℕ) → i ≤ side_room →
+        get_or result i 0 ≡ row_start (pattern_of m n matrix.now.nonzeros matrix.now.list.now) i }
 {
     let mut starts = row_counts(matrix);
     for i in 0..SIDE_ROOM {

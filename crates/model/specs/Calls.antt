@@ -20,7 +20,7 @@ use Rattle.model.specs.Pattern.{Pattern, entry_bytes, row_place, column_place, h
 use Rattle.model.specs.Split.{Split, caps_outside, part_number, volume, cap_from_percent, rest_from_percent}
 use Rattle.model.specs.Marking.{marking}
 use Rattle.model.specs.Walk.{Record, rules_of, fresh_of, walk, floor, shown_split}
-use Rattle.model.specs.State.{record_of, search_of, state_fine}
+use Rattle.model.specs.State.{record_of, search_of, no_record, state_fine}
 
 -- outside the range 1 to the limit
 unfoldable pub outside : ℕ → ℕ → Bool
@@ -108,6 +108,11 @@ unfoldable pub open_call : ℕ → ℕ → ℕ → List ℕ → Caps → Result 
 open_call m n nonzeros list caps =
     open_verdict m n nonzeros list caps
     then Ok (search_of (fresh_of (pattern_of m n nonzeros list) caps))
+
+-- the search that an opening answers; where it is refused, the one with nothing in it
+abbrev pub opened_search : Result Search Refusal → Search
+opened_search (Ok fresh) = fresh
+opened_search (Err refusal) = search_of no_record
 
 -- complete 0 or 1
 unfoldable pub complete_number : Bool → ℕ

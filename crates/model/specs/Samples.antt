@@ -4,8 +4,7 @@
 use Rattle.std.specs.Prelude.{Bool, true, false, List, [], ◌∷◌, ◌≡◌, refl, ℕ, zero, suc, ◌+◌, ◌-◌, ◌^◌, min, eqb, leb, get_or, replicate}
 use Rattle.counting.specs.Tests.{◌and◌, ◌or◌, pick, bit}
 use Rattle.counting.specs.Sums.{sum, any}
-use Rattle.std.specs.Prelude.{Result, Ok, Err}
-use Rattle.model.specs.declared.Refusal.{Refusal}
+use Rattle.std.specs.Prelude.{Ok}
 use Rattle.model.specs.declared.Part.{Part}
 use Rattle.model.specs.declared.Part.TheVariants.{Zero, One}
 use Rattle.model.specs.declared.Caps.{Caps}
@@ -22,9 +21,9 @@ use Rattle.model.specs.Marking.{Marking, precedes, place, mark_at, marking, take
 use Rattle.model.specs.Bound.{says_leaning, leans, L1, L2, L3, L4, untaken, at_stake, untaken_on, falling, leaning_counts, strikes, struck, conflict, most_chosen, bound}
 use Rattle.model.specs.Matching.{columns_where, conflict_of, conflict_columns, looked, else_go, through, with_column, with_mate, hand_over, column_step, column_within, start_from, counted, starts_from, matching_search, looks}
 use Rattle.model.specs.Walk.{Record, rules_of, fresh, fresh_of, gives_part, one_allowed, after_zero, advance, cuts, is_empty, tried, improved, looks_at, stands, outcome, try_once, step, walk, walked, put_later, beginnings_later, open_markings, least_bound, floor, filled, shown_split}
-use Rattle.model.specs.Refusal.{accepted, refused, refusal_code, refusal, verdict_reply, reply_code, verdict_code, each_verdict}
+use Rattle.model.specs.Refusal.{accepted, refused, refusal_code, verdict_reply, reply_code, verdict_code, each_verdict}
 use Rattle.model.specs.State.{no_record, stack, marks_in, best_in, record_of, array_of, trail_of, is_found, best_or, search_of, are_marks, ones_allowed, beginnings_valid, trail_fine, best_fine, counts_fine, state_fine}
-use Rattle.model.specs.Calls.{outside, sizes_verdict, rises, split_number, off_matrix, entry_verdict, list_verdict, open_verdict, run_verdict, show_verdict, cap_verdict, cap_call, open_call, ended, ran_record, ran_after, run_call, shown_from, shown, part_bytes, shown_parts, shown_after, parts_after, show_call, show_parts, complete_number, cap_reply, run_reply, show_reply, capped, ended_reply, shows_reply}
+use Rattle.model.specs.Calls.{outside, sizes_verdict, rises, split_number, off_matrix, entry_verdict, list_verdict, open_verdict, run_verdict, show_verdict, cap_verdict, cap_call, open_call, opened_search, ended, ran_record, ran_after, run_call, shown_from, shown, part_bytes, shown_parts, shown_after, parts_after, show_call, show_parts, complete_number, cap_reply, run_reply, show_reply, capped, ended_reply, shows_reply}
 
 -- part p for nonzero t, and another split's parts for the others
 unfoldable pub with_part : Split → ℕ → Part → Split
@@ -276,14 +275,9 @@ pub counted_looks : CountedLooks
 unfolding computing
 counted_looks = record { ring_ends = refl; ring_looks = refl; ring_stays = refl; ring_before = refl }
 
--- the search that an opening answers; where it is refused, one with nothing in it
-abbrev pub search_in : Result Search Refusal → Search
-search_in (Ok search) = search
-search_in (Err refusal) = search_of no_record
-
 -- the diagonal, opened; run for 3 tries; run for 8 more
 abbrev pub opened : Search
-opened = search_in (open_call 2 2 2 diagonal_list (both_caps 1))
+opened = opened_search (open_call 2 2 2 diagonal_list (both_caps 1))
 
 abbrev pub begun : Ran
 begun = run_call opened 2 2 2 diagonal_list 3

@@ -23,7 +23,7 @@ use Rattle.scanning.specs.Lines.{empty_line}
 use Rattle.scanning.proofs.Scans.{next_after}
 use Rattle.texts.specs.declared.Header.{Header}
 use Rattle.texts.specs.Header.{header_of}
-use Rattle.texts.specs.Entries.{no_cells, line_verdict, opened, noted_entry, noted, end_verdict, Entries, after, entries_from}
+use Rattle.texts.specs.Entries.{no_cells, line_verdict, opened, noted, end_verdict, Entries, after, entries_from}
 use Rattle.texts.proofs.Cells.{ended, later, one_line, entries_end, entries_none, entries-one}
 use Rattle.readback.specs.TextSays.{line_below, is_entry, entry_below}
 use Rattle.counting.proofs.Passed.{count_passed, count_failed}
@@ -31,7 +31,7 @@ use Rattle.readback.proofs.Table.{mark_range}
 use Rattle.readback.proofs.Entered.{CellIn, Entered, cell_before_lem, entered-none, entered-more}
 use Rattle.readback.proofs.LinesBelow.{line_more, entry_so, entry_not}
 use Rattle.readback.proofs.Mirror.{cell_below, mirror_below, mark_below, Own, own_in}
-use Rattle.readback.proofs.Noted.{Noted, noted-start, empty_more, own_free, entry_more, check_entry, check_form, check_free}
+use Rattle.readback.proofs.Noted.{Noted, noted-start, empty_more, own_free, entry_more, check_form, check_free}
 
 -- after a line the reading goes on, or its verdict is a refusal
 goes_on : (v : Verdict) (cells : List ℕ) (rest : Entries) → (after v cells rest).verdict ≡ accepted → (v ≡ accepted) × (after v cells rest ≡ rest)
@@ -130,7 +130,7 @@ module _
       (lines seen : ℕ) (cells : List ℕ) → line_below text lines < length text → line_verdict text h (line_below text lines) seen cells ≡ accepted →
       Reached text lines seen cells →
       Reached text (suc lines) (seen + bit (not (empty_line text (line_below text lines)))) (noted text h (line_below text lines) cells)
-  unfolding noted noted_entry line_verdict
+  unfolding noted entry_below
   line_reached lines seen cells there v r =
       let empty = empty_line text (line_below text lines) in
       by_test
@@ -138,9 +138,7 @@ module _
       (λ z. let none = entries_none empty z in
       let same : seen ≡ seen + bit (not empty) = omega arith in
       rw (sym same, pick_true cells _ z) (empty_reached lines seen cells z r))
-      (λ z. let checks = sym (pick-false accepted _ z) ∙ v in
-      let entry = check_entry text lines (line_below text lines) cells (then-second _ _ checks) in
-      rw (sym (entries-one empty z), pick-false cells _ z, entry) (entry_reached lines seen cells (entry_so text lines there z) v z r))
+      (λ z. rw (sym (entries-one empty z), pick-false cells _ z) (entry_reached lines seen cells (entry_so text lines there z) v z r))
 
   -- the end of the text
   end_reached :

@@ -1,7 +1,7 @@
 -- The entries of a written text are read back into the table of cells.
 -- Assumes nothing.
 use mathlib.Core.Bool.{true, false}
-use Rattle.std.specs.Prelude.{Some}
+use Rattle.std.specs.Prelude.{Ok}
 use mathlib.Core.List.{List}
 use mathlib.Core.Path.{◌≡◌, refl, sym, ◌∙◌, ap}
 use Prim.Native.Nat.{ℕ, zero, suc, ◌+◌, ◌^◌, ◌≤◌, ◌<◌}
@@ -19,8 +19,9 @@ use Rattle.model.proofs.Theorems.Checks.{refuse_no, then_accepted}
 use Rattle.scanning.specs.declared.Field.TheVariants.{Integer}
 use Rattle.scanning.specs.declared.Numbers.{Numbers}
 use Rattle.scanning.specs.Lines.{line_next, empty_line}
+use Rattle.scanning.specs.Words.{numbers_in}
 use Rattle.texts.specs.declared.Header.{Header}
-use Rattle.texts.specs.Entries.{entry_at, cell_of, no_cells, is_given, cell_mark, above_diagonal, entry_check, line_verdict, opened, noted_entry, noted, end_verdict, entries_from}
+use Rattle.texts.specs.Entries.{entry_at, cell_of, no_cells, is_given, cell_mark, above_diagonal, entry_check, line_verdict, opened, noted, end_verdict, entries_from}
 use Rattle.texts.proofs.Cells.{mirror_general, ended, entries-on, entries_end, entries-one}
 use Rattle.writing.specs.Written.{sizes_text, entry_text, entries_text}
 use Rattle.writing.proofs.Held.{Holds}
@@ -100,7 +101,7 @@ module _
     next =
         row_next text (here t) (row_in list t + 1) (column_in list t + 1) (get_or parts t 0 + 1) held_row row_small column_small part_small room ∙ over
 
-    entry_back : entry_at text h (here t) ≡ Some entry
+    entry_back : entry_at text h (here t) ≡ Ok entry
     unfolding entry_at
     entry_back =
         row_numbers text (here t) (row_in list t + 1) (column_in list t + 1) (get_or parts t 0 + 1) held_row row_small column_small part_small room
@@ -114,7 +115,7 @@ module _
         (λ e. let w = table-given (cell_in list) (mark_in parts) t (cell_in list t) e in
         omega (arith, w.2, rising split.in_order w.0 t w.1 l))
 
-    check : entry_check h (Some entry) (here t) (table t) ≡ accepted
+    check : entry_check h (Ok entry) (here t) (table t) ≡ accepted
     unfolding entry_check above_diagonal
     check =
         then_accepted
@@ -150,11 +151,11 @@ module _
         (omega (arith, table-length (cell_in list) (mark_in parts) t, split.rows, split.row-in t l, split.columns, split.column-in t l))
 
     new-table : table (suc t) ≡ noted text h (here t) (table t)
-    unfolding noted noted_entry table_of
+    unfolding noted table_of
     new-table =
         sym
         (pick-false (table t) _ filled
-        ∙ ap (λ e. noted_entry h e (table t)) entry_back
+        ∙ ap (λ e. opened h (numbers_in e) (table t)) entry_back
         ∙ noted_once
         ∙ ap (λ c. set (table t) c (cell_mark (get_or parts t 0 + 1))) (cell_is (row_in list t) (column_in list t))
         ∙ ap (set (table t) (cell_in list t)) (mark-is (get_or parts t 0 + 1) (omega arith) (omega (arith, split.part_in t l))))

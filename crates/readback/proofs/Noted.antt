@@ -1,7 +1,7 @@
 -- The table of cells after the first lines below the size line: a cell is given exactly if one of these lines gives it, with that line's mark.
 -- Assumes nothing.
 use mathlib.Core.Bool.{true, false, not}
-use Rattle.std.specs.Prelude.{Option, Some, None, unwrap_or}
+use Rattle.std.specs.Prelude.{Result, Ok, Err}
 use mathlib.Core.List.{List}
 use mathlib.Core.Path.{◌≡◌, refl, sym, ◌∙◌, ap}
 use mathlib.Core.Logic.{⊎_elim, inl, inr}
@@ -19,8 +19,9 @@ use Rattle.model.specs.Limits.{line_limit}
 use Rattle.model.specs.Calls.{outside}
 use Rattle.model.proofs.Theorems.Checks.{then-second, refuse-not, then-first, in_range}
 use Rattle.scanning.specs.declared.Numbers.{Numbers}
+use Rattle.scanning.specs.Words.{numbers_in}
 use Rattle.texts.specs.declared.Header.{Header}
-use Rattle.texts.specs.Header.{no_numbers, header_of}
+use Rattle.texts.specs.Header.{header_of}
 use Rattle.texts.specs.Entries.{no_cells, is_given, entry_at, above_diagonal, entry_check, opened}
 use Rattle.readback.specs.TextSays.{line_below, is_entry, entry_below, InForm}
 use Rattle.readback.proofs.Table.{none-there, given_mark, not-given, mark_range}
@@ -157,11 +158,11 @@ module _ {text : List ℕ} {lines : ℕ} {cells : List ℕ} (read : Noted text l
               (eq-or-lt_of_le (le_of_suc-le-suc l));
         }
 
--- an entry that is accepted has numbers
-has_numbers : (h : Header) (e : Option Numbers) (place : ℕ) (cells : List ℕ) → entry_check h e place cells ≡ accepted → e ≡ Some (unwrap_or e no_numbers)
+-- an entry that is accepted has its form
+has_form : (h : Header) (e : Result Numbers Numbers) (place : ℕ) (cells : List ℕ) → entry_check h e place cells ≡ accepted → e ≡ Ok (numbers_in e)
 unfolding entry_check
-has_numbers h None place cells fine = never (cc)
-has_numbers h (Some e) place cells fine = refl
+has_form h (Ok e) place cells fine = refl
+has_form h (Err e) place cells fine = never (cc)
 
 -- what the checks 3, 5, 16, 8, 6 of an entry tell
 module _
@@ -173,11 +174,11 @@ module _
   abbrev e : Numbers
   e = entry_below text k
 
-  pub check_entry : entry_at text h (line_below text k) ≡ Some e
+  check_entry : entry_at text h (line_below text k) ≡ Ok e
   unfolding entry_below
-  check_entry = has_numbers h (entry_at text h (line_below text k)) place cells fine
+  check_entry = has_form h (entry_at text h (line_below text k)) place cells fine
 
-  checked : entry_check h (Some e) place cells ≡ accepted
+  checked : entry_check h (Ok e) place cells ≡ accepted
   checked = sym (ap (λ x. entry_check h x place cells) check_entry) ∙ fine
 
   pub check_form : InForm text k

@@ -1,8 +1,7 @@
 -- A reading refuses nothing for a cap.
 -- Assumes nothing.
-use Rattle.std.specs.Prelude.{Ok, Err}
+use Rattle.std.specs.Prelude.{Result, Ok, Err}
 use mathlib.Core.Bool.{Bool, true, false}
-use Rattle.std.specs.Prelude.{Option, Some, None}
 use mathlib.Core.List.{List}
 use mathlib.Core.Path.{refl}
 use Prim.Native.Nat.{ℕ, zero, suc}
@@ -47,10 +46,10 @@ module _ (h : Header) where
       also pick_spares h.symmetric _ _ square_spares (room_spares h.entries list parts)
 
   -- an entry, a line, and the end of the text
-  check_spares : (e : Option Numbers) (place : ℕ) (cells : List ℕ) → Spares word_for_cap (entry_check h e place cells)
+  check_spares : (e : Result Numbers Numbers) (place : ℕ) (cells : List ℕ) → Spares word_for_cap (entry_check h e place cells)
   unfolding entry_check for_cap ◌or◌
-  check_spares None place cells = refused_spares EntryForm place refl
-  check_spares (Some e) place cells =
+  check_spares (Err e) place cells = refused_spares EntryForm place refl
+  check_spares (Ok e) place cells =
       refuse_spares _ OffMatrix _ refl
       also refuse_spares _ AboveDiagonal _ refl
       also refuse_spares _ BadPart _ refl

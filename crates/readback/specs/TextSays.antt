@@ -1,14 +1,14 @@
 -- Document 01, 'Texts', and request 1 of document 02: what a text says by its lines after the size line, and that a list and parts say the same.
 -- Assumes nothing.
-use Rattle.std.specs.Prelude.{Bool, true, false, not, Some, unwrap_or, List, ◌≡◌, ◌↔◌, ◌⊎◌, ℕ, zero, suc, ◌+◌, ◌*◌, ◌≤◌, ◌<◌, eqb, ltb, length, get_or}
+use Rattle.std.specs.Prelude.{Bool, true, false, not, Ok, List, ◌≡◌, ◌↔◌, ◌⊎◌, ℕ, zero, suc, ◌+◌, ◌*◌, ◌≤◌, ◌<◌, eqb, ltb, length, get_or}
 use Rattle.counting.specs.Tests.{◌and◌}
 use Rattle.counting.specs.Sums.{count}
 use Rattle.model.specs.Pattern.{row_in, column_in}
 use Rattle.scanning.specs.declared.Numbers.{Numbers}
 use Rattle.scanning.specs.Lines.{line_next, empty_line}
-use Rattle.scanning.specs.Words.{is_integer}
+use Rattle.scanning.specs.Words.{numbers_in, is_integer}
 use Rattle.texts.specs.declared.Header.{Header}
-use Rattle.texts.specs.Header.{no_numbers, header_of}
+use Rattle.texts.specs.Header.{header_of}
 use Rattle.texts.specs.Entries.{entry_at}
 
 -- the offset of the first byte of line k after the size line, counted from 0; not below the text's length where there is no such line
@@ -20,9 +20,9 @@ line_below text (suc k) = line_next text (line_below text k)
 unfoldable pub is_entry : List ℕ → ℕ → Bool
 is_entry text k = ltb (line_below text k) (length text) and not (empty_line text (line_below text k))
 
--- the numbers of that line, "i j", "i j p" for integer or "i j v" for real; without p the third is 1, and where the line has not that form all are 0
+-- the numbers of that line, "i j", "i j p" for integer or "i j v" for real; without p the third is 1
 unfoldable pub entry_below : List ℕ → ℕ → Numbers
-entry_below text k = unwrap_or (entry_at text (header_of text) (line_below text k)) no_numbers
+entry_below text k = numbers_in (entry_at text (header_of text) (line_below text k))
 
 -- it is an entry's line, and the entry is on the diagonal
 unfoldable pub on_diagonal : List ℕ → ℕ → Bool
@@ -30,7 +30,7 @@ on_diagonal text k = is_entry text k and eqb (entry_below text k).first (entry_b
 
 -- the line has the form of an entry, with row and column inside the matrix, for symmetric not above the diagonal, and p is 1 or 2
 pub record InForm (text : List ℕ) (k : ℕ) : Type 0 where
-  pub form : entry_at text (header_of text) (line_below text k) ≡ Some (entry_below text k)
+  pub form : entry_at text (header_of text) (line_below text k) ≡ Ok (entry_below text k)
   pub row_from : 1 ≤ (entry_below text k).first
   pub row_to : (entry_below text k).first ≤ (header_of text).m
   pub column_from : 1 ≤ (entry_below text k).second

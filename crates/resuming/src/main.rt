@@ -9,19 +9,20 @@ mod repeating;
 
 use crate::order::Order;
 use crate::repeating::Showings;
-use input::read_full;
+use input::read_so_far;
 use model::{Search, Shown};
 use std::io;
 use testing::cases::Cases;
 use testing::laying::first;
 use testing::saying::say_refused;
+use testing::unfailing::Unfailing;
 
 // What the last showing answered, and the sum of all answers.
 fn say_showings(rt: &impl Print, showings: Showings) -> io::Result<()> {
     match showings.last {
         Ok(Shown::Split { volume, floor }) => print!(rt; " volume {volume} floor {floor}")?,
         Ok(Shown::NoneYet { floor }) => print!(rt; " none yet floor {floor}")?,
-        Err(refusal) => say_refused(rt, refusal)?,
+        Err(refusal) => say_refused(rt, refusal),
     }
     print!(rt; " sum {}", showings.sum)
 }
@@ -50,7 +51,7 @@ fn answer(rt: &impl Print, order: &Order) -> io::Result<()> {
         Ok(search) => resume(rt, order, search),
         Err(refusal) => {
             print!(rt; "open")?;
-            say_refused(rt, refusal)?;
+            say_refused(rt, refusal);
             println!(rt)
         }
     }
@@ -59,10 +60,11 @@ fn answer(rt: &impl Print, order: &Order) -> io::Result<()> {
 // Reads the pattern and the numbers.
 fn main(rt: HostRuntime) -> io::Result<()> {
     let mut page = [0u8; 65536];
-    let len = read_full(&mut rt.reader(), &mut page)?;
+    let len = read_so_far(&mut rt.reader(), &mut page);
+    let out = Unfailing(&rt);
     let order = Order::read(&mut Cases {
         text: first(&page, len),
         at: 0,
     });
-    answer(&rt, &order)
+    answer(&out, &order)
 }

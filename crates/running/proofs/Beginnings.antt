@@ -2,7 +2,7 @@
 -- Assumes nothing.
 use mathlib.Core.Bool.{true}
 use mathlib.Core.List.{List, [], ◌∷◌}
-use mathlib.Core.Path.{◌≡◌, refl, sym, ◌∙◌, ap}
+use mathlib.Core.Path.{◌≡◌, refl, sym, ◌∙◌, ap, subst}
 use Prim.Native.Nat.{ℕ, zero, suc, ◌+◌, ◌*◌, ◌≤◌, ◌<◌}
 use native.Mathlib.Omega.{arith}
 use lib.Dec.{eqb}
@@ -18,7 +18,7 @@ use Rattle.model.specs.Calls.{list_verdict}
 use Rattle.model.specs.Limits.{line_room, line_limit}
 use Rattle.matching.specs.Starts.{side_room, row_start}
 use Rattle.marking.specs.Order.{total_by}
-use Rattle.model.specs.Pattern.{Pattern, pattern_of, lines, line_count}
+use Rattle.model.specs.Pattern.{Pattern, pattern_of, lines, line_count, line_total}
 use Rattle.model.specs.Marking.{place, mark_at, marking, unmarked, valid}
 use Rattle.model.specs.Walk.{rules_of}
 use Rattle.model.specs.State.{trail_of, caps_in, record_of, search_of, are_marks, beginnings_valid}
@@ -34,6 +34,7 @@ use Rattle.pattern.specs.Matrix.{pattern_in}
 use Rattle.pattern.specs.Room.{within}
 use Rattle.marking.specs.Marks.{unmarked_lines}
 use Rattle.marking.proofs.Trails.{dropped-is}
+use Rattle.crossing.specs.Crossing.{Ordered}
 use Rattle.crossing.specs.Tables.{Limited, StartsOf, OrderOf, LaidFrom}
 use Rattle.crossing.proofs.OfList.{list_limited, list-lines, lines-counted}
 use Rattle.weighing.specs.Cells.{marking_in}
@@ -42,9 +43,11 @@ use Rattle.keeping.specs.Tied.{tally_room}
 use Rattle.keeping.proofs.Holding.{holds_eq}
 use Rattle.state.proofs.Accepting.{accepted_ready}
 use Rattle.running.specs.declared.kept.Kept.{Kept}
+use Rattle.running.specs.declared.tables.Crossed.{Crossed}
+use Rattle.running.specs.declared.tables.Ranked.{Ranked}
 use Rattle.running.specs.declared.tables.Tables.{Tables}
 use Rattle.running.specs.Arrays.{Zeros, Neutral}
-use Rattle.running.specs.Tabled.{TablesOf}
+use Rattle.running.specs.Tabled.{CountedOf, RankedOf, CrossedOf, TablesOf}
 use Rattle.running.specs.Walking.{Standing}
 use Rattle.running.specs.Kept.{Keeps}
 use Rattle.running.specs.Laying.{first_marks, Keepable}
@@ -122,44 +125,99 @@ pub listed_limited : {m n nonzeros : ℕ} {list rows : List ℕ} → Listed m n 
 listed_limited {m} {n} {nonzeros} {list} l =
     list_limited m n nonzeros list l.rows_small l.columns_small l.small l.inside l.thin
 
--- the tables of an accepted list, as they are made
-pub tables_made :
-    (x : Matrix) (rows counts places starts cross order : List ℕ) (full total : ℕ) →
+-- the lines of an accepted list, as they are ranked
+pub ranked_made :
+    (x : Matrix) (rows counts places : List ℕ) (full total : ℕ) →
     list_verdict x.m x.n x.nonzeros x.list.now ≡ accepted → total ≡ within (x.m + x.n) →
     ((i : ℕ) → i ≤ side_room → get_or rows i 0 ≡ row_start (pattern_in x) i) →
     (length counts ≡ line_room) × ((l : ℕ) → l < line_room → get_or counts l 0 ≡ line_count (pattern_in x) l) →
     (x.m + x.n ≤ line_room → ((l : ℕ) → l < line_room → get_or counts l 0 ≡ line_count (pattern_in x) l) →
     ((l : ℕ) → line_count (pattern_in x) l ≤ line_limit) → Placed (pattern_in x) places) →
-    (length starts ≡ line_room) × StartsOf total counts starts → LaidFrom (pattern_in x) starts cross → OrderOf total places order →
     full ≡ total_by counts total →
-    TablesOf x rows counts places starts cross order full
-tables_made x rows counts places starts cross order full total opens all started counted placed laid crossed ordered filled =
-    let ready = accepted_ready x.m x.n x.nonzeros x.list.now counts places rows full opens counted.1 placed started (filled ∙ ap (total_by counts) all) in
-    let listed = ready.listed in
+    RankedOf x rows counts places full
+ranked_made x rows counts places full total opens all started counted placed filled =
+    record {
+      ready = accepted_ready x.m x.n x.nonzeros x.list.now counts places rows full opens counted.1 placed started (filled ∙ ap (total_by counts) all);
+      counts_long = counted.0;
+      counts_are = counted.1;
+    }
+
+-- where its lines cross, as it is made
+pub crossed_made :
+    (x : Matrix) {rows counts starts cross : List ℕ} (total : ℕ) → CountedOf x rows counts → total ≡ within (x.m + x.n) →
+    (length starts ≡ line_room) × StartsOf total counts starts → LaidFrom (pattern_in x) starts cross →
+    CrossedOf x rows counts starts cross
+crossed_made x {counts = counts} total c all laid crossed =
+    let listed = c.listed in
     let limited = listed_limited listed in
     let every = list-lines x.m x.n x.nonzeros x.list.now listed.rows_small listed.columns_small ∙ sym all in
-    let counts_are = lines-counted counts limited counted.1 in
+    let counts_are = lines-counted counts limited c.counts_are in
     record {
-      ready = ready;
+      listed = listed;
+      laid = crossed laid.0 limited (laid.1 (pattern_in x) limited every counts_are);
+      counts_long = c.counts_long;
+      counts_are = counts_are;
+    }
+
+-- what is counted of a pattern whose lines are ranked
+pub ranked_counted : (r : Ranked) → CountedOf r.matrix r.rows r.counts
+ranked_counted r =
+    record {
+      listed = r.made.ready.listed;
+      counts_long = r.made.counts_long;
+      counts_are = r.made.counts_are;
+    }
+
+-- its lines in order,
+pub order_made :
+    (r : Ranked) {order : List ℕ} (total : ℕ) → total ≡ within (r.matrix.m + r.matrix.n) → OrderOf total r.places order →
+    Ordered (pattern_in r.matrix) order
+order_made r total all ordered =
+    let listed = r.made.ready.listed in
+    let every = list-lines r.matrix.m r.matrix.n r.matrix.nonzeros r.matrix.list.now listed.rows_small listed.columns_small ∙ sym all in
+    ordered (pattern_in r.matrix) (listed_limited listed) every r.made.ready.placed.placed
+
+-- and such a pattern with its crossing lines and its lines in order,
+pub tables_ordered :
+    (r : Ranked) {x : Matrix} {rows counts starts cross order : List ℕ} → x ≡ r.matrix → CrossedOf x rows counts starts cross →
+    Ordered (pattern_in r.matrix) order →
+    TablesOf x rows counts r.places starts cross order r.full
+tables_ordered r {order = order} same c ordered =
+    record {
+      ready = record {
+        listed = c.listed;
+        placed = subst (λ (y : Matrix). Placed (pattern_in y) r.places) (sym same) r.made.ready.placed;
+        total = subst (λ (y : Matrix). r.full ≡ line_total (pattern_in y)) (sym same) r.made.ready.total;
+        few = r.made.ready.few;
+      };
       tabled = record {
-        laid = crossed laid.0 limited (laid.1 (pattern_in x) limited every counts_are);
-        ordered = ordered (pattern_in x) limited every ready.placed.placed;
-        counts_long = counted.0;
-        counts_are = counts_are;
+        laid = c.laid;
+        ordered = subst (λ (y : Matrix). Ordered (pattern_in y) order) (sym same) ordered;
+        counts_long = c.counts_long;
+        counts_are = c.counts_are;
       };
     }
 
+-- from its arrays as they are made
+pub tables_made :
+    (r : Ranked) (starts cross order : List ℕ) (total : ℕ) → total ≡ within (r.matrix.m + r.matrix.n) →
+    (length starts ≡ line_room) × StartsOf total r.counts starts → LaidFrom (pattern_in r.matrix) starts cross →
+    OrderOf total r.places order →
+    TablesOf r.matrix r.rows r.counts r.places starts cross order r.full
+tables_made r starts cross order total all laid crossed ordered =
+    tables_ordered r refl (crossed_made r.matrix total (ranked_counted r) all laid crossed) (order_made r total all ordered)
+
 -- each of so many lines is one of the pattern
-pub every_line : (t : Tables) (total end : ℕ) → total ≡ within (t.matrix.m + t.matrix.n) → end ≡ total → end ≡ lines (pattern_in t.matrix)
+pub every_line : (t : Crossed) (total end : ℕ) → total ≡ within (t.matrix.m + t.matrix.n) → end ≡ total → end ≡ lines (pattern_in t.matrix)
 every_line t total end all e =
     let x = t.matrix in
-    let l = t.made.ready.listed in
+    let l = t.made.listed in
     e ∙ all ∙ sym (list-lines x.m x.n x.nonzeros x.list.now l.rows_small l.columns_small)
 
 -- the marks that a run places
-module _ {s : Search} {t : Tables} {k budget : ℕ} (r : Startable s t k budget) where
+module _ (t : Tables) {s : Search} {k budget : ℕ} (r : Startable s t.crossed.matrix k budget) where
   abbrev x : Matrix
-  x = t.matrix
+  x = t.crossed.matrix
 
   short : length (record_of s).trail ≤ mark_room
   short = omega (arith, r.legal.within, rules_k (pattern_in x) (caps_in s), t.made.ready.total, t.made.ready.few)
@@ -184,11 +242,11 @@ module _ {s : Search} {t : Tables} {k budget : ℕ} (r : Startable s t k budget)
 
       -- so that they can be placed,
       pub given_keepable :
-          (end : ℕ) → end ≡ total → Keepable given t end
+          (end : ℕ) → end ≡ total → Keepable given t.crossed end
       given_keepable end e =
           record {
             caps = caps_in s;
-            every = every_line t total end all e;
+            every = every_line t.crossed total end all e;
             fits = given_fits;
           }
 
@@ -202,7 +260,7 @@ module _ {s : Search} {t : Tables} {k budget : ℕ} (r : Startable s t k budget)
       given_kept end e keeps =
           let P = pattern_in x in
           let τ = earlier (record_of s).trail in
-          let every = every_line t total end all e in
+          let every = every_line t.crossed total end all e in
           holds_eq
           t.made.ready.listed.inside
           (marking P τ)

@@ -23,7 +23,7 @@ use Rattle.model.specs.Calls.{ended, ran_record, ran_after}
 use Rattle.model.proofs.Theorems.Checks.{refuse-not, refuse_so, refuse_no, refuse_either, then_accepted, then_refused, then_assoc}
 use Rattle.pattern.specs.declared.matrix.Matrix.{Matrix}
 use Rattle.pattern.specs.Matrix.{pattern_in}
-use Rattle.running.specs.declared.tables.Tables.{Tables}
+use Rattle.running.specs.declared.tables.Ranked.{Ranked}
 use Rattle.state.specs.Holding.{normal_of}
 use Rattle.state.specs.Ready.{Ready, Fits}
 use Rattle.state.proofs.Accepting.{fine_normal, fits_back, ready_fits, fine_looked}
@@ -134,22 +134,22 @@ fine_tries R m n nonzeros r h =
 abbrev pub fine_in : Search → Matrix → Bool
 fine_in s x = state_fine (rules_in s x) x.m x.n x.nonzeros (record_of s)
 
-module _ {tables : Tables} (s from : Search) (t : Tryable tables s) (f : from ≡ normal_of s) where
+module _ (ranked : Ranked) (s from : Search) (t : Tryable ranked.matrix s) (f : from ≡ normal_of s) where
   abbrev x : Matrix
-  x = tables.matrix
+  x = ranked.matrix
 
-  abbrev ready : Ready x.m x.n x.nonzeros x.list.now tables.places tables.rows tables.full
-  ready = tables.made.ready
+  abbrev ready : Ready x.m x.n x.nonzeros x.list.now ranked.places ranked.rows ranked.full
+  ready = ranked.made.ready
 
-  fits : Fits tables.full (record_of s)
-  fits = ready_fits x.m x.n x.nonzeros x.list.now tables.places tables.rows tables.full s ready t.fine
+  fits : Fits ranked.full (record_of s)
+  fits = ready_fits x.m x.n x.nonzeros x.list.now ranked.places ranked.rows ranked.full s ready t.fine
 
   -- a cleared search is that of its record
   is_record : from ≡ search_of (record_of s)
-  is_record = f ∙ fine_normal s tables.full ready.few fits
+  is_record = f ∙ fine_normal s ranked.full ready.few fits
 
   pub same_record : record_of from ≡ record_of s
-  same_record = ap record_of is_record ∙ fits_back tables.full (record_of s) ready.few fits
+  same_record = ap record_of is_record ∙ fits_back ranked.full (record_of s) ready.few fits
 
   pub same_rules : rules_in from x ≡ rules_in s x
   same_rules = ap (rules_of (pattern_in x)) (normal_caps s from f)
@@ -167,8 +167,8 @@ module _ {tables : Tables} (s from : Search) (t : Tryable tables s) (f : from �
 
   -- and tries can be made on it
   pub from_readied :
-      (full budget : ℕ) → full ≤ tables.full → s.tries + budget ≤ tries_limit + budget_limit →
-      Startable from tables full budget
+      (full budget : ℕ) → full ≤ ranked.full → s.tries + budget ≤ tries_limit + budget_limit →
+      Startable from ranked.matrix full budget
   unfolding record_of
   from_readied full budget most room =
       record {
@@ -182,19 +182,19 @@ module _ {tables : Tables} (s from : Search) (t : Tryable tables s) (f : from �
 
   -- with k marks for a full trail they are the walk's
   walk-taken :
-      (budget : ℕ) → walk_to (rules_in from x) tables.full budget (record_of from) ≡ walk (rules_of (pattern_in x) (record_of s).caps) budget (record_of s)
+      (budget : ℕ) → walk_to (rules_in from x) ranked.full budget (record_of from) ≡ walk (rules_of (pattern_in x) (record_of s).caps) budget (record_of s)
   walk-taken budget =
       let P = pattern_in x in
       let R = rules_in s x in
-      ap (λ (Q : Rules). walk_to Q tables.full budget (record_of from)) same_rules
-      ∙ ap (walk_to R tables.full budget) same_record
+      ap (λ (Q : Rules). walk_to Q ranked.full budget (record_of from)) same_rules
+      ∙ ap (walk_to R ranked.full budget) same_record
       ∙ ap (λ (k : ℕ). walk_to R k budget (record_of s)) (ready.total ∙ sym (rules_k P (caps_in s)))
       ∙ walk_exact (rules_sound P (caps_in s) ready.listed.inside) budget (record_of s) (fine_going _ x.m x.n x.nonzeros (record_of s) t.fine)
       ∙ ap (λ (c : Caps). walk (rules_of P c) budget (record_of s)) (sym (record_caps s))
 
   -- the search after an accepted run
   pub run_walked :
-      (budget : ℕ) (after : Search) → after ≡ search_of (walk_to (rules_in from x) tables.full budget (record_of from)) →
+      (budget : ℕ) (after : Search) → after ≡ search_of (walk_to (rules_in from x) ranked.full budget (record_of from)) →
       after ≡ search_of (ran_record (record_of s) (pattern_in x) budget)
   unfolding ran_record
   run_walked budget after walks = walks ∙ ap search_of (walk-taken budget)
@@ -202,7 +202,7 @@ module _ {tables : Tables} (s from : Search) (t : Tryable tables s) (f : from �
   -- an accepted run
   pub run_taken :
       (budget : ℕ) (after : Search) (answer : Ended) (v : Verdict) → v ≡ budget_by s.tries budget → v ≡ accepted →
-      after ≡ search_of (walk_to (rules_in from x) tables.full budget (record_of from)) →
+      after ≡ search_of (walk_to (rules_in from x) ranked.full budget (record_of from)) →
       answer ≡ ended after.complete after.looks →
       record { answer = Ok answer; search = after } ≡ ran_after (budget_by s.tries budget) s (pattern_in x) budget
   unfolding ran_after search_of
@@ -212,7 +212,7 @@ module _ {tables : Tables} (s from : Search) (t : Tryable tables s) (f : from �
       ∙ ap (λ (q : Verdict). ran_after q s (pattern_in x) budget) (sym a ∙ e)
 
   -- the trail of the search has at most k marks
-  pub from-short : from.trail.len ≤ tables.full
+  pub from-short : from.trail.len ≤ ranked.full
   unfolding record_of marks_in
   from-short =
       omega (
@@ -223,7 +223,7 @@ module _ {tables : Tables} (s from : Search) (t : Tryable tables s) (f : from �
       )
 
   -- with none for a full trail, and tries enough for every open marking, they find its floor
-  pub floor_readied : (budget : ℕ) → budget ≤ budget_limit → Startable from tables 0 budget
+  pub floor_readied : (budget : ℕ) → budget ≤ budget_limit → Startable from ranked.matrix 0 budget
   unfolding record_of
   floor_readied budget b =
       from_readied 0 budget (omega arith) (omega (arith, fine_tries _ x.m x.n x.nonzeros (record_of s) t.fine))

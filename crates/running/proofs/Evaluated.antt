@@ -1,14 +1,17 @@
 -- The evaluation of a marking: the tables made of its list, what is struck, and a marking that is not valid.
 -- Assumes nothing.
+use Rattle.std.specs.Prelude.{Err}
 use mathlib.Core.Bool.{false}
 use mathlib.Core.List.{List}
 use mathlib.Core.Path.{◌≡◌, sym, ◌∙◌}
 use Prim.Native.Nat.{ℕ, ◌+◌, ◌*◌, ◌≤◌, ◌<◌}
 use native.Mathlib.Omega.{arith}
 use lib.ListN.{get_or}
-use Rattle.counting.proofs.Joined.{clash}
+use Rattle.counting.proofs.Joined.{clash, never}
 use Rattle.model.specs.declared.Part.TheVariants.{Zero, One}
 use Rattle.model.specs.declared.Caps.{Caps}
+use Rattle.model.specs.declared.Refusal.{Refusal}
+use Rattle.model.specs.Refusal.{Verdict, accepted}
 use Rattle.model.specs.Limits.{line_room, line_limit, nonzero_limit}
 use Rattle.model.specs.Pattern.{Pattern, pattern_of, lines, line_count}
 use Rattle.model.specs.Marking.{Marking}
@@ -32,6 +35,10 @@ use Rattle.running.proofs.StruckFew.{struck_few}
 pub given_at_lem : (given : List ℕ) (l : ℕ) → l < line_room → get_or given l 0 ≡ marking_in given l
 unfolding marking_in
 given_at_lem given l b = sym (marking_in_lem given l b)
+
+-- a list that is accepted is not refused
+pub refused_never : {A : Type 0} (v : Verdict) {refusal : Refusal} → v ≡ Err refusal → v ≡ accepted → A
+refused_never v h e = let q = sym h ∙ e in never (cc)
 
 -- no line of an accepted list has more nonzeros than line_limit
 pub listed_topped :

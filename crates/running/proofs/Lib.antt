@@ -12,6 +12,7 @@ pub mod Walked
 pub mod Exact
 pub mod Firsts
 pub mod Beginnings
+pub mod Listed
 pub mod Openings
 pub mod Floored
 pub mod Budgets

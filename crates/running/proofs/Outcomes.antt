@@ -1,18 +1,19 @@
 -- The record of the walk after a try, as the code holds it, by the three outcomes of a try.
 -- Assumes nothing.
 use mathlib.Core.Bool.{Bool, true, false}
-use mathlib.Core.List.{◌∷◌}
+use mathlib.Core.List.{List, ◌∷◌}
 use mathlib.Core.Path.{◌≡◌, refl, sym, ◌∙◌, ap, subst}
 use Prim.Native.Nat.{ℕ, ◌+◌}
 use lib.Dec.{ltb}
 use lib.ListN.{length}
 use Rattle.trail.specs.declared.Trail.{Trail}
 use Rattle.model.specs.Pattern.{Pattern}
-use Rattle.model.specs.Marking.{marking}
+use Rattle.model.specs.Marking.{Marking, marking}
 use Rattle.model.specs.Walk.{Record, Rules, advance, tried, looks_at, stands}
 use Rattle.model.specs.State.{trail_of, is_found, best_or}
 use Rattle.packing.specs.declared.PackedTrail.{PackedTrail}
 use Rattle.packing.specs.Packed.{earlier, Packs}
+use Rattle.keeping.specs.Kept.{Holds}
 use Rattle.running.specs.declared.kept.Kept.{Kept}
 use Rattle.running.specs.Kept.{Keeps}
 use Rattle.running.specs.Trying.{bettered, try_to}
@@ -78,6 +79,32 @@ module _ {P : Pattern} (R : Rules) (full : ℕ) {r : Record} {trail next : Packe
         looks_is = looked ∙ ap (λ (x : ℕ). x + looks_at R r.trail) g.looks_is;
         holds = holds;
       })
+
+-- arrays that are the same hold the same
+pub holds_same :
+    {P : Pattern} {μ : Marking} {marks by left kinds tally sums loads marks' by' left' kinds' tally' sums' loads' : List ℕ} →
+    marks' ≡ marks → by' ≡ by → left' ≡ left → kinds' ≡ kinds → tally' ≡ tally → sums' ≡ sums → loads' ≡ loads →
+    Holds P μ marks by left kinds tally sums loads → Holds P μ marks' by' left' kinds' tally' sums' loads'
+holds_same {P} {μ} {marks} {by} {left} {kinds} {tally} {sums} {loads} {marks'} {by'} {left'} {kinds'} {tally'} {sums'} a b c d e f g h =
+    subst
+    (λ (x : List ℕ). Holds P μ marks' by' left' kinds' tally' sums' x)
+    (sym g)
+    (subst
+    (λ (x : List ℕ). Holds P μ marks' by' left' kinds' tally' x loads)
+    (sym f)
+    (subst
+    (λ (x : List ℕ). Holds P μ marks' by' left' kinds' x sums loads)
+    (sym e)
+    (subst
+    (λ (x : List ℕ). Holds P μ marks' by' left' x tally sums loads)
+    (sym d)
+    (subst
+    (λ (x : List ℕ). Holds P μ marks' by' x kinds tally sums loads)
+    (sym c)
+    (subst
+    (λ (x : List ℕ). Holds P μ marks' x left kinds tally sums loads)
+    (sym b)
+    (subst (λ (x : List ℕ). Holds P μ x by left kinds tally sums loads) (sym a) h))))))
 
 -- what is held may be named otherwise
 pub goes_same :

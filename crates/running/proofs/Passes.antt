@@ -2,7 +2,7 @@
 -- Assumes nothing.
 use mathlib.Core.Bool.{Bool, true, false, not}
 use mathlib.Core.List.{List}
-use mathlib.Core.Path.{◌≡◌, refl, sym}
+use mathlib.Core.Path.{◌≡◌, refl, sym, subst}
 use Prim.Native.Nat.{ℕ, ◌+◌, ◌*◌, ◌<◌}
 use lib.Dec.{eqb}
 use lib.ListN.{get_or, set}
@@ -23,6 +23,26 @@ use Rattle.running.specs.Ways.{moved, Countable, Passable, besides}
 abbrev pub passed : Bool → List ℕ → ℕ → ℕ → ℕ → ℕ → ℕ
 passed true cross a i b = standing cross a i
 passed false cross a i b = standing cross i b
+
+-- where the line whose count is changed is the one that was read, what is asked of the one is asked of the other, and so is what is done to it
+pub asks_same :
+    (taken : Bool) (by left kinds tally sums : List ℕ) (p x y : ℕ) →
+    Countable taken by left kinds tally sums y p → x ≡ y → Countable taken by left kinds tally sums x p
+asks_same taken by left kinds tally sums p x y k e =
+    subst (λ (z : ℕ). Countable taken by left kinds tally sums z p) (sym e) k
+
+pub by_same :
+    (taken : Bool) (by by' : List ℕ) (p x y : ℕ) →
+    by' ≡ set by (line_room * p + x) (moved taken (get_or by (line_room * p + x) 0)) → x ≡ y →
+    by' ≡ set by (line_room * p + y) (moved taken (get_or by (line_room * p + y) 0))
+by_same taken by by' p x y k e =
+    subst (λ (z : ℕ). by' ≡ set by (line_room * p + z) (moved taken (get_or by (line_room * p + z) 0))) e k
+
+pub left_same :
+    (taken : Bool) (left left' : List ℕ) (x y : ℕ) →
+    left' ≡ set left x (moved taken (get_or left x 0)) → x ≡ y → left' ≡ set left y (moved taken (get_or left y 0))
+left_same taken left left' x y k e =
+    subst (λ (z : ℕ). left' ≡ set left z (moved taken (get_or left z 0))) e k
 
 -- what is asked of a line whose nonzeros are taken, or given back
 pub record Asked_all (taken : Bool) (starts cross marks by left kinds tally sums : List ℕ) (l p : ℕ) : Type 0 where

@@ -30,7 +30,8 @@ use Rattle.packing.specs.declared.PackedTrail.{PackedTrail}
 use Rattle.packing.specs.Packed.{earlier, Packs}
 use Rattle.pattern.specs.Matrix.{pattern_in}
 use Rattle.running.specs.declared.kept.Kept.{Kept}
-use Rattle.running.specs.declared.tables.Tables.{Tables}
+use Rattle.pattern.specs.declared.matrix.Matrix.{Matrix}
+use Rattle.state.specs.Ready.{ReadyIn}
 use Rattle.running.specs.Kept.{Keeps}
 use Rattle.running.specs.Run.{Goes, rules_in, Startable}
 use Rattle.running.specs.Trying.{bettered, try_to, step_to, walk_to}
@@ -126,82 +127,82 @@ ending s tries looks count found best complete trail =
       trail = trail;
     }
 
-module _ {s : Search} {t : Tables} {k budget : ℕ} (w : Startable s t k budget) where
+module _ {s : Search} {x : Matrix} {k budget : ℕ} (w : Startable s x k budget) where
   -- the walk after so many tries has a legal trail
-  pub going_at : (i : ℕ) → Going (rules_in s t.matrix) (walk_to (rules_in s t.matrix) k i (record_of s))
+  pub going_at : (i : ℕ) → Going (rules_in s x) (walk_to (rules_in s x) k i (record_of s))
   unfolding record_of
   going_at i =
       walk_going
-      (rules_in s t.matrix)
+      (rules_in s x)
       k
       i
       (record_of s)
-      (omega (arith, w.within, rules_k (pattern_in t.matrix) (caps_in s)))
+      (omega (arith, w.within, rules_k (pattern_in x) (caps_in s)))
       (record { legal = w.legal; ended = w.ended })
 
   -- before the first try
   pub goes_start :
-      {trail : PackedTrail} {kept : Kept} →
+      {places rows : List ℕ} {full : ℕ} → ReadyIn x places rows full → {trail : PackedTrail} {kept : Kept} →
       ((τ : List ℕ) → length τ ≤ mark_room → are_marks τ ≡ true → s.trail ≡ trail_of τ → Packs trail τ) →
-      Keeps (pattern_in t.matrix) (marking (pattern_in t.matrix) (earlier (record_of s).trail)) kept →
-      Goes (pattern_in t.matrix) (walk_to (rules_in s t.matrix) k 0 (record_of s)) trail s.best s.best_count s.found s.looks kept
+      Keeps (pattern_in x) (marking (pattern_in x) (earlier (record_of s).trail)) kept →
+      Goes (pattern_in x) (walk_to (rules_in s x) k 0 (record_of s)) trail s.best s.best_count s.found s.looks kept
   unfolding walk_to record_of search_of
-  goes_start packs holds =
+  goes_start ready packs holds =
       record {
-        packs = packs (record_of s).trail (omega (arith, w.legal.within, rules_k (pattern_in t.matrix) (caps_in s), t.made.ready.total, t.made.ready.few)) w.legal.marks (ap (λ (x : Search). x.trail) w.held);
-        best_is = ap (λ (x : Search). x.best) w.held;
+        packs = packs (record_of s).trail (omega (arith, w.legal.within, rules_k (pattern_in x) (caps_in s), ready.total, ready.few)) w.legal.marks (ap (λ (q : Search). q.trail) w.held);
+        best_is = ap (λ (q : Search). q.best) w.held;
         count_is = refl;
-        found_is = ap (λ (x : Search). x.found) w.held;
+        found_is = ap (λ (q : Search). q.found) w.held;
         looks_is = refl;
         holds = holds;
       }
 
   -- one try more
   pub one_more :
-      (i : ℕ) → is_empty (walk_to (rules_in s t.matrix) k i (record_of s)).trail ≡ false →
-      try_to (rules_in s t.matrix) k (walk_to (rules_in s t.matrix) k i (record_of s)) ≡ walk_to (rules_in s t.matrix) k (i + 1) (record_of s)
-  one_more i some = walk_more (rules_in s t.matrix) k i (record_of s) ((going_at i).ended ∙ some)
+      (i : ℕ) → is_empty (walk_to (rules_in s x) k i (record_of s)).trail ≡ false →
+      try_to (rules_in s x) k (walk_to (rules_in s x) k i (record_of s)) ≡ walk_to (rules_in s x) k (i + 1) (record_of s)
+  one_more i some = walk_more (rules_in s x) k i (record_of s) ((going_at i).ended ∙ some)
 
   pub tries_more :
-      (i : ℕ) → is_empty (walk_to (rules_in s t.matrix) k i (record_of s)).trail ≡ false →
-      (walk_to (rules_in s t.matrix) k i (record_of s)).tries ≡ s.tries + i →
-      (walk_to (rules_in s t.matrix) k (i + 1) (record_of s)).tries ≡ s.tries + (i + 1)
+      (i : ℕ) → is_empty (walk_to (rules_in s x) k i (record_of s)).trail ≡ false →
+      (walk_to (rules_in s x) k i (record_of s)).tries ≡ s.tries + i →
+      (walk_to (rules_in s x) k (i + 1) (record_of s)).tries ≡ s.tries + (i + 1)
   tries_more i some e =
       omega (
         arith,
-        try_counts (rules_in s t.matrix) k (walk_to (rules_in s t.matrix) k i (record_of s)),
+        try_counts (rules_in s x) k (walk_to (rules_in s x) k i (record_of s)),
         ap (λ (r : Record). r.tries) (one_more i some),
       )
 
   -- there is room for its looks
   pub looks-room :
-      (i a b : ℕ) → i < budget → (walk_to (rules_in s t.matrix) k i (record_of s)).tries ≡ s.tries + i →
-      a ≡ (walk_to (rules_in s t.matrix) k i (record_of s)).looks → b ≡ looks_at (rules_in s t.matrix) (walk_to (rules_in s t.matrix) k i (record_of s)).trail →
+      {places rows : List ℕ} {full : ℕ} → ReadyIn x places rows full → (i a b : ℕ) → i < budget → (walk_to (rules_in s x) k i (record_of s)).tries ≡ s.tries + i →
+      a ≡ (walk_to (rules_in s x) k i (record_of s)).looks → b ≡ looks_at (rules_in s x) (walk_to (rules_in s x) k i (record_of s)).trail →
       a + b < 2 ^ 64
   unfolding record_of pattern_of
-  looks-room i a b few made ea eb =
-      let R = rules_in s t.matrix in
+  looks-room ready i a b few made ea eb =
+      let R = rules_in s x in
       let r = walk_to R k i (record_of s) in
-      let most = rules-looks (pattern_in t.matrix) (caps_in s) t.made.ready.listed.inside in
+      let most = rules-looks (pattern_in x) (caps_in s) ready.listed.inside in
       let room : r.tries + 1 ≤ tries_limit + budget_limit = omega (arith, w.room) in
       omega (
         arith,
         looks-more R most r (walk-looked R most k i (record_of s) (record { few = w.looked })),
-        mul_assoc (r.tries + 1) t.matrix.m t.matrix.nonzeros,
-        mul-le-mul (mul-le-mul room t.made.ready.listed.rows_small) t.made.ready.listed.small,
+        mul_assoc (r.tries + 1) x.m x.nonzeros,
+        mul-le-mul (mul-le-mul room ready.listed.rows_small) ready.listed.small,
       )
 
   -- the search after the run
   pub run_ends :
       (i : ℕ) {trail : PackedTrail} {best : Trail} {count : ℕ} {found : Bool} {looks : ℕ} {kept : Kept} →
-      (walk_to (rules_in s t.matrix) k i (record_of s)).tries ≡ s.tries + i →
-      Goes (pattern_in t.matrix) (walk_to (rules_in s t.matrix) k i (record_of s)) trail best count found looks kept →
+      (walk_to (rules_in s x) k i (record_of s)).tries ≡ s.tries + i →
+      Goes (pattern_in x) (walk_to (rules_in s x) k i (record_of s)) trail best count found looks kept →
       i ≤ budget → not (eqb trail.len 0) and ltb i budget ≡ false →
       (last : Trail) → ((τ : List ℕ) → Packs trail τ → last ≡ trail_of τ) →
-      ending s (s.tries + i) looks count found best (eqb trail.len 0) last ≡ search_of (walk_to (rules_in s t.matrix) k budget (record_of s))
+      ending s (s.tries + i) looks count found best (eqb trail.len 0) last ≡ search_of (walk_to (rules_in s x) k budget (record_of s))
   unfolding search_of record_of
   run_ends i {trail} {best} {count} {found} {looks} made g b stop last unpacks =
-      let R = rules_in s t.matrix in
+      let R = rules_in s x in
       let r = walk_to R k i (record_of s) in
       let e = none_empty r.trail trail.len g.packs.long in
       let same = walk_same R k i (record_of s) in

@@ -7,7 +7,7 @@ use Rattle.model.specs.Pattern.{Pattern, lines, line_count}
 use Rattle.model.specs.Marking.{Marking, unmarked, valid}
 use Rattle.pattern.specs.Matrix.{pattern_in}
 use Rattle.running.specs.declared.kept.Kept.{Kept}
-use Rattle.running.specs.declared.tables.Tables.{Tables}
+use Rattle.running.specs.declared.tables.Crossed.{Crossed}
 use Rattle.running.specs.Kept.{KeepsOn}
 
 -- no unmarked line has more than so many nonzeros
@@ -15,8 +15,8 @@ pub record Topped (P : Pattern) (μ : Marking) (top : ℕ) : Type 0 where
   pub light : top ≤ line_limit
   pub above : (l : ℕ) → l < lines P → unmarked ≤ μ l → line_count P l ≤ top
 
--- a valid marking of the tables' pattern, of which all is kept
-pub record Judgeable (t : Tables) (kept : Kept) (caps : Caps) (top : ℕ) : Type 0 where
+-- a valid marking of the pattern at hand, of which all is kept
+pub record Judgeable (t : Crossed) (kept : Kept) (caps : Caps) (top : ℕ) : Type 0 where
   pub μ : Marking
   pub holds : KeepsOn t μ kept
   pub meets_caps : valid (pattern_in t.matrix) caps μ ≡ true

@@ -9,7 +9,7 @@ use Rattle.pattern.specs.Matrix.{pattern_in}
 use Rattle.weighing.specs.Cells.{marking_in}
 use Rattle.keeping.specs.Kept.{Placeable}
 use Rattle.running.specs.declared.kept.Kept.{Kept}
-use Rattle.running.specs.declared.tables.Tables.{Tables}
+use Rattle.running.specs.declared.tables.Crossed.{Crossed}
 use Rattle.running.specs.Kept.{KeepsOn}
 
 -- the marks of the lines before l; a number that is no mark is read as none
@@ -21,21 +21,21 @@ pub record Settable (P : Pattern) (μ : Marking) (l p : ℕ) : Type 0 where
   pub free : μ l ≡ unmarked
   pub placeable : p < unmarked → Placeable P μ l p
 
--- it can, by the tables and what is kept of the marking
-pub record SettableIn (t : Tables) (kept : Kept) (l p : ℕ) : Type 0 where
+-- it can, by the crossing lines and what is kept of the marking
+pub record SettableIn (t : Crossed) (kept : Kept) (l p : ℕ) : Type 0 where
   pub μ : Marking
   pub settable : Settable (pattern_in t.matrix) μ l p
   pub holds : KeepsOn t μ kept
 
 -- the marks of an array, which make a valid marking, can be placed line by line
-pub record Givable (t : Tables) (given : List ℕ) (kept : Kept) (end : ℕ) : Type 0 where
+pub record Givable (t : Crossed) (given : List ℕ) (kept : Kept) (end : ℕ) : Type 0 where
   pub caps : Caps
   pub every : end ≡ lines (pattern_in t.matrix)
   pub fits : valid (pattern_in t.matrix) caps (marking_in given) ≡ true
   pub holds : KeepsOn t (marking (pattern_in t.matrix) []) kept
 
 -- so they can, on what is kept of no marks
-pub record Keepable (given : List ℕ) (t : Tables) (end : ℕ) : Type 0 where
+pub record Keepable (given : List ℕ) (t : Crossed) (end : ℕ) : Type 0 where
   pub caps : Caps
   pub every : end ≡ lines (pattern_in t.matrix)
   pub fits : valid (pattern_in t.matrix) caps (marking_in given) ≡ true

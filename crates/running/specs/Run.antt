@@ -30,20 +30,20 @@ pub record Goes (P : Pattern) (r : Record) (trail : PackedTrail) (best : Trail) 
 abbrev pub rules_in : Search → Matrix → Rules
 rules_in s x = rules_of (pattern_in x) (caps_in s)
 
--- a search that is not refused, with the tables of its list at hand, so many marks for a full trail, no more than the pattern's own, and room for the tries to be made
-pub record Startable (s : Search) (t : Tables) (k budget : ℕ) : Type 0 where
+-- a search of a pattern that is not refused, so many marks for a full trail, no more than the pattern's own, and room for the tries to be made
+pub record Startable (s : Search) (x : Matrix) (k budget : ℕ) : Type 0 where
   pub room : s.tries + budget ≤ tries_limit + budget_limit
   pub held : s ≡ search_of (record_of s)
-  pub within : k ≤ line_total (pattern_in t.matrix)
-  pub legal : Legal (rules_in s t.matrix) (record_of s).trail
+  pub within : k ≤ line_total (pattern_in x)
+  pub legal : Legal (rules_in s x) (record_of s).trail
   pub ended : s.complete ≡ is_empty (record_of s).trail
-  pub looked : s.looks ≤ s.tries * (t.matrix.m * t.matrix.nonzeros)
+  pub looked : s.looks ≤ s.tries * (x.m * x.nonzeros)
 
 -- such a search, with all that is kept of its trail but the last mark
 pub record Walkable (s : Search) (t : Tables) (kept : Kept) (k budget : ℕ) : Type 0 where
-  pub startable : Startable s t k budget
-  pub holds : KeepsOn t (marking (pattern_in t.matrix) (earlier (record_of s).trail)) kept
+  pub startable : Startable s t.crossed.matrix k budget
+  pub holds : KeepsOn t.crossed (marking (pattern_in t.crossed.matrix) (earlier (record_of s).trail)) kept
 
--- what a run is made on: the tables of an accepted list, and a state that is not refused
-pub record Tryable (t : Tables) (s : Search) : Type 0 where
-  pub fine : state_fine (rules_in s t.matrix) t.matrix.m t.matrix.n t.matrix.nonzeros (record_of s) ≡ true
+-- what a run and a showing are made on: a pattern, and a state of it that is not refused
+pub record Tryable (x : Matrix) (s : Search) : Type 0 where
+  pub fine : state_fine (rules_in s x) x.m x.n x.nonzeros (record_of s) ≡ true

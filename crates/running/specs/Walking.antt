@@ -10,6 +10,7 @@ use Rattle.model.specs.State.{stack, are_marks, beginnings_valid}
 use Rattle.model.proofs.Order.Places.{line_at}
 use Rattle.pattern.specs.Matrix.{pattern_in}
 use Rattle.running.specs.declared.kept.Kept.{Kept}
+use Rattle.running.specs.declared.tables.Crossed.{Crossed}
 use Rattle.running.specs.declared.tables.Tables.{Tables}
 use Rattle.running.specs.declared.walking.Tried.{Tried}
 use Rattle.running.specs.Kept.{Keeps, KeepsOn}
@@ -36,7 +37,7 @@ pub record Attempted (P : Pattern) (caps : Caps) (τ : List ℕ) (p best : ℕ) 
   pub holds : Keeps P (marking P (pick r.stands (p ∷ τ) τ)) kept
 
 -- such a try can be made
-pub record Attemptable (t : Tables) (kept : Kept) (l p : ℕ) (caps : Caps) : Type 0 where
+pub record Attemptable (t : Crossed) (kept : Kept) (l p : ℕ) (caps : Caps) : Type 0 where
   pub τ : List ℕ
   pub next : Next (pattern_in t.matrix) caps τ l p
   pub holds : KeepsOn t (marking (pattern_in t.matrix) τ) kept
@@ -45,5 +46,5 @@ pub record Attemptable (t : Tables) (kept : Kept) (l p : ℕ) (caps : Caps) : Ty
 pub record Liftable (t : Tables) (kept : Kept) (from : ℕ) : Type 0 where
   pub caps : Caps
   pub mark : ℕ → ℕ
-  pub standing : Standing (rules_of (pattern_in t.matrix) caps) (stack mark from)
-  pub holds : KeepsOn t (marking (pattern_in t.matrix) (stack mark from)) kept
+  pub standing : Standing (rules_of (pattern_in t.crossed.matrix) caps) (stack mark from)
+  pub holds : KeepsOn t.crossed (marking (pattern_in t.crossed.matrix) (stack mark from)) kept

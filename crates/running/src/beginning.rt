@@ -11,27 +11,43 @@ ghost use Rattle.running.specs.Trying.{walk_to};
 ghost use Rattle.running.specs.Run.{rules_in, Startable};
 
 use crate::kept::Kept;
-use crate::tables::Tables;
+use crate::tables::{Crossed, Ranked, Tables};
 use crate::trying::walk_on;
+use crossing::laying::crossings;
+use crossing::ordering::order_of;
+use crossing::starting::line_starts;
 use marking::marks::marks_by_line;
 use model::Search;
 use model::limits::LINE_ROOM;
 use trail::Trail;
 
 // The marks of a trail but the last, by line.
-fn marks_before(trail: Trail, tables: &Tables<'_>) -> [u8; LINE_ROOM]
-    ensures { (τ : List ℕ) → trail ≡ trail_of τ → length τ ≤ mark_room → (l : ℕ) → l < lines (pattern_in tables.now.matrix) →
-        marking_in result l ≡ marking (pattern_in tables.now.matrix) (earlier τ) l }
+fn marks_before(trail: Trail, tables: &Tables<'_, '_>) -> [u8; LINE_ROOM]
+    ensures { (τ : List ℕ) → trail ≡ trail_of τ → length τ ≤ mark_room → (l : ℕ) → l < lines (pattern_in tables.now.crossed.matrix) →
+        marking_in result l ≡ marking (pattern_in tables.now.crossed.matrix) (earlier τ) l }
 {
-    marks_by_line(tables.matrix.lines(), &tables.places, &trail.drop())
+    marks_by_line(tables.crossed.matrix.lines(), tables.places, &trail.drop())
 }
 
 // So many tries from a search, or fewer only because it became complete, with k marks for a full trail.
-pub(crate) fn run_from(search: Search, tables: &Tables<'_>, k: u16, budget: u64) -> Search
-    requires { Startable search tables.now k budget }
-    ensures { result ≡ search_of (walk_to (rules_in search tables.now.matrix) k budget (record_of search)) }
+// In a frame of its own, so that a call that is refused before takes no stack for its tables.
+#[inline(never)]
+pub(crate) fn run_from(search: Search, ranked: &Ranked<'_>, k: u16, budget: u64) -> Search
+    requires { Startable search ranked.now.matrix k budget }
+    ensures { result ≡ search_of (walk_to (rules_in search ranked.now.matrix) k budget (record_of search)) }
 {
-    let given = marks_before(search.trail, tables);
-    let mut kept = Kept::of(&given, tables, usize::from(tables.matrix.lines()));
-    walk_on(search, tables, &mut kept, k, budget)
+    let matrix = &ranked.matrix;
+    let lines = matrix.lines();
+    let starts = line_starts(&ranked.counts, lines);
+    let cross = crossings(matrix, &starts);
+    let order = order_of(&ranked.places, lines);
+    let crossed = Crossed::over(matrix, &ranked.rows, &ranked.counts, &starts, &cross);
+    let tables = Tables::over(ranked, crossed, &order);
+    let given = marks_before(search.trail, &tables);
+    let mut kept = Kept::of(
+        &given,
+        &tables.crossed,
+        usize::from(tables.crossed.matrix.lines()),
+    );
+    walk_on(search, &tables, &mut kept, k, budget)
 }

@@ -12,7 +12,7 @@ ghost use Rattle.judging.specs.Bounds.{cap_at, struck_from, bound_from};
 
 use crate::kept::Kept;
 use crate::room::{BOTH_PLACE, CONFLICTS_PLACE, TALLY_ROOM, TORN_PLACE};
-use crate::tables::Tables;
+use crate::tables::Crossed;
 use bound::lower::matched_of;
 use matching::augmenting::Ground;
 use model::Caps;
@@ -114,18 +114,18 @@ impl Kept {
     }
 
     // The least of a count and the bound of a valid marking, and the looks of its matching; no unmarked line has more than `top` nonzeros.
-    pub(crate) fn judge(&self, tables: &Tables<'_>, top: u16, caps: Caps, best: u64) -> Judged
-        requires { Judgeable tables.now self.now caps top }
-        ensures { (μ : Marking) → KeepsOn tables.now μ self.now →
-            valid (pattern_in tables.now.matrix) caps μ ≡ true → Topped (pattern_in tables.now.matrix) μ top →
-            (result.least ≡ min (bound (pattern_in tables.now.matrix) caps μ) best) × (result.looks ≡ looks (pattern_in tables.now.matrix) μ) }
+    pub(crate) fn judge(&self, crossed: &Crossed<'_, '_>, top: u16, caps: Caps, best: u64) -> Judged
+        requires { Judgeable crossed.now self.now caps top }
+        ensures { (μ : Marking) → KeepsOn crossed.now μ self.now →
+            valid (pattern_in crossed.now.matrix) caps μ ≡ true → Topped (pattern_in crossed.now.matrix) μ top →
+            (result.least ≡ min (bound (pattern_in crossed.now.matrix) caps μ) best) × (result.looks ≡ looks (pattern_in crossed.now.matrix) μ) }
     {
         let none = self.sums[CONFLICTS_PLACE] == 0;
         let over = Ground {
             lean: &self.kinds,
-            m: tables.matrix.m,
-            list: tables.matrix.list,
-            starts: &tables.rows,
+            m: crossed.matrix.m,
+            list: crossed.matrix.list,
+            starts: crossed.rows,
         };
         let matching = matched_of(&over, none);
         let least = self.least_with(

@@ -13,9 +13,13 @@ ghost use Rattle.running.specs.Evaluating.{NoBound, Evaluates};
 
 use crate::kept::Kept;
 use crate::room::{CONFLICTS_PLACE, TORN_PLACE};
-use crate::tables::Tables;
+use crate::tables::Crossed;
 use bound::lower::matched_of;
+use crossing::laying::crossings;
+use crossing::starting::line_starts;
+use marking::order::line_counts;
 use matching::augmenting::Ground;
+use matching::starts::row_starts;
 use model::Caps;
 use model::limits::LINE_ROOM;
 use pattern::checks::list_verdict;
@@ -47,22 +51,22 @@ impl Kept {
     ghost use Rattle.running.specs.Evaluating.{Evaluates};
 
     // The evaluation of a valid marking, from what it takes and what is kept of it.
-    fn evaluate(&self, tables: &Tables<'_>, taken: Taken, caps: Caps, best: u64) -> Evaluation
-        requires { Judgeable tables.now self.now caps line_limit }
-        ensures { (μ : Marking) → KeepsOn tables.now μ self.now →
-            valid (pattern_in tables.now.matrix) caps μ ≡ true → TakenOf (pattern_in tables.now.matrix) μ taken →
-            Evaluates (pattern_in tables.now.matrix) caps μ best result }
+    fn evaluate(&self, crossed: &Crossed<'_, '_>, taken: Taken, caps: Caps, best: u64) -> Evaluation
+        requires { Judgeable crossed.now self.now caps line_limit }
+        ensures { (μ : Marking) → KeepsOn crossed.now μ self.now →
+            valid (pattern_in crossed.now.matrix) caps μ ≡ true → TakenOf (pattern_in crossed.now.matrix) μ taken →
+            Evaluates (pattern_in crossed.now.matrix) caps μ best result }
     {
-        let judged = self.judge(tables, TOP, caps, best);
+        let judged = self.judge(crossed, TOP, caps, best);
         let top = usize::from(TOP);
         let zero = self.strike_part(0, top, caps);
         let one = self.strike_part(1, top, caps);
         let none = self.sums[CONFLICTS_PLACE] == 0;
         let over = Ground {
             lean: &self.kinds,
-            m: tables.matrix.m,
-            list: tables.matrix.list,
-            starts: &tables.rows,
+            m: crossed.matrix.m,
+            list: crossed.matrix.list,
+            starts: crossed.rows,
         };
         let matching = matched_of(&over, none);
         let struck = zero + one;
@@ -94,9 +98,13 @@ fn evaluate_valid(
         TakenOf (pattern_in matrix.now) (marking_in given.now) taken →
         Evaluates (pattern_in matrix.now) caps (marking_in given.now) best result }
 {
-    let tables = Tables::of(matrix);
-    let kept = Kept::of(given, &tables, usize::from(tables.matrix.lines()));
-    kept.evaluate(&tables, taken, caps, best)
+    let rows = row_starts(matrix);
+    let counts = line_counts(matrix);
+    let starts = line_starts(&counts, matrix.lines());
+    let cross = crossings(matrix, &starts);
+    let crossed = Crossed::over(matrix, &rows, &counts, &starts, &cross);
+    let kept = Kept::of(given, &crossed, usize::from(crossed.matrix.lines()));
+    kept.evaluate(&crossed, taken, caps, best)
 }
 
 // The evaluation of a marking that is not valid.

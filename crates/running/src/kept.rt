@@ -8,7 +8,7 @@ ghost use Rattle.weighing.specs.Cells.{marking_in};
 ghost use Rattle.keeping.specs.Kept.{marking_with};
 
 use crate::room::{BY_ROOM, LOAD_ROOM, SUM_ROOM, TALLY_ROOM};
-use crate::tables::Tables;
+use crate::tables::Crossed;
 use marking::marks::unmarked_lines;
 use model::limits::LINE_ROOM;
 
@@ -30,13 +30,14 @@ impl Kept {
     ghost use Rattle.running.specs.Laying.{first_marks, Settable, SettableIn, Givable, Keepable};
 
     // What is kept of no marks: each line has all its nonzeros left, and none leans or is torn.
-    fn none(tables: &Tables<'_>) -> Kept
-        ensures { KeepsOn tables.now (marking (pattern_in tables.now.matrix) []) result }
+    #[inline(always)]
+    fn none(crossed: &Crossed<'_, '_>) -> Kept
+        ensures { KeepsOn crossed.now (marking (pattern_in crossed.now.matrix) []) result }
     {
         Kept {
             marks: unmarked_lines(),
             by: [0; BY_ROOM],
-            left: tables.counts,
+            left: *crossed.counts,
             kinds: [2; LINE_ROOM],
             tally: [0; TALLY_ROOM],
             sums: [0; SUM_ROOM],
@@ -45,40 +46,40 @@ impl Kept {
     }
 
     // Line l, which is unmarked, gets mark p, or none where p is no mark.
-    fn place_if(&mut self, tables: &Tables<'_>, l: usize, p: u8)
-        requires { SettableIn tables.now self.old l p }
-        ensures { (μ : Marking) → Settable (pattern_in tables.now.matrix) μ l p →
-            KeepsOn tables.now μ self.old → KeepsOn tables.now (marking_with μ l (min p unmarked)) self.new }
+    fn place_if(&mut self, crossed: &Crossed<'_, '_>, l: usize, p: u8)
+        requires { SettableIn crossed.now self.old l p }
+        ensures { (μ : Marking) → Settable (pattern_in crossed.now.matrix) μ l p →
+            KeepsOn crossed.now μ self.old → KeepsOn crossed.now (marking_with μ l (min p unmarked)) self.new }
     {
         if p < 3 {
-            self.push(tables, l, p);
+            self.push(crossed, l, p);
         }
     }
 
     // Places the marks of an array by line, line by line.
-    fn place_all(&mut self, tables: &Tables<'_>, given: &[u8; LINE_ROOM], end: usize)
-        requires { Givable tables.now given.now self.old end }
-        ensures { (caps : Caps) → end ≡ lines (pattern_in tables.now.matrix) →
-            valid (pattern_in tables.now.matrix) caps (marking_in given.now) ≡ true →
-            KeepsOn tables.now (marking (pattern_in tables.now.matrix) []) self.old →
-            KeepsOn tables.now (first_marks (marking_in given.now) end) self.new }
+    fn place_all(&mut self, crossed: &Crossed<'_, '_>, given: &[u8; LINE_ROOM], end: usize)
+        requires { Givable crossed.now given.now self.old end }
+        ensures { (caps : Caps) → end ≡ lines (pattern_in crossed.now.matrix) →
+            valid (pattern_in crossed.now.matrix) caps (marking_in given.now) ≡ true →
+            KeepsOn crossed.now (marking (pattern_in crossed.now.matrix) []) self.old →
+            KeepsOn crossed.now (first_marks (marking_in given.now) end) self.new }
     {
         for l in 0..end {
-            self.place_if(tables, l, given[l]);
+            self.place_if(crossed, l, given[l]);
         }
     }
 
-    // All that is kept of a valid marking, with the tables of its pattern.
+    // All that is kept of a valid marking, with the crossing lines of its pattern.
     // In a frame of its own, so that the arrays that it is made by are gone from the stack when a run begins.
     #[inline(never)]
-    pub(crate) fn of(given: &[u8; LINE_ROOM], tables: &Tables<'_>, end: usize) -> Kept
-        requires { Keepable given.now tables.now end }
-        ensures { (caps : Caps) → end ≡ lines (pattern_in tables.now.matrix) →
-            valid (pattern_in tables.now.matrix) caps (marking_in given.now) ≡ true →
-            KeepsOn tables.now (first_marks (marking_in given.now) end) result }
+    pub(crate) fn of(given: &[u8; LINE_ROOM], crossed: &Crossed<'_, '_>, end: usize) -> Kept
+        requires { Keepable given.now crossed.now end }
+        ensures { (caps : Caps) → end ≡ lines (pattern_in crossed.now.matrix) →
+            valid (pattern_in crossed.now.matrix) caps (marking_in given.now) ≡ true →
+            KeepsOn crossed.now (first_marks (marking_in given.now) end) result }
     {
-        let mut kept = Kept::none(tables);
-        kept.place_all(tables, given, end);
+        let mut kept = Kept::none(crossed);
+        kept.place_all(crossed, given, end);
         kept
     }
 }

@@ -10,7 +10,7 @@ ghost use Rattle.model.specs.Calls.{run_verdict, ended, ran_record, run_call};
 ghost use Rattle.running.specs.Budget.{budget_by};
 
 use crate::beginning::run_from;
-use crate::tables::Tables;
+use crate::tables::Ranked;
 use model::limits::{BUDGET_LIMIT, TRIES_LIMIT};
 use model::{Ended, Ran, Refusal, Search, Word};
 use pattern::checks::{list_verdict, refuse_if};
@@ -70,11 +70,11 @@ fn run_checked(
         nonzeros: nonzeros as u16,
         list,
     };
-    let tables = Tables::of(&matrix);
-    let fine = state_fine(search, &tables.matrix, &tables.places, tables.full);
+    let ranked = Ranked::of(&matrix);
+    let fine = state_fine(search, &ranked.matrix, &ranked.places, ranked.full);
     refuse_if(!fine, Word::State, 0)?;
     budget_verdict(search.tries, budget)?;
-    Ok(run_from(normal(search), &tables, tables.full, budget))
+    Ok(run_from(normal(search), &ranked, ranked.full, budget))
 }
 
 /// A run on any list: so many tries, or fewer only because the search became complete. A refused one hands back the search that was given.

@@ -11,7 +11,7 @@ use crate::counts::count_one;
 use crate::kept::Kept;
 use crate::kinds::{settle, settle_if};
 use crate::room::{BY_ROOM, SUM_ROOM, TALLY_ROOM};
-use crate::tables::Tables;
+use crate::tables::Crossed;
 use crossing::CROSS_ROOM;
 use model::limits::LINE_ROOM;
 
@@ -52,10 +52,10 @@ impl Kept {
 
     // Line l, which is unmarked, gets mark p.
     // Kept: the arrays go on apart, each by its own `&mut`: a loop of stores through one `&mut self`, as measured, took 1.2 to 2 times as long.
-    pub(crate) fn push(&mut self, tables: &Tables<'_>, l: usize, p: u8)
-        requires { PushableOn tables.now self.old l p }
-        ensures { (μ : Marking) → Placeable (pattern_in tables.now.matrix) μ l p →
-            KeepsOn tables.now μ self.old → KeepsOn tables.now (marking_with μ l p) self.new }
+    pub(crate) fn push(&mut self, crossed: &Crossed<'_, '_>, l: usize, p: u8)
+        requires { PushableOn crossed.now self.old l p }
+        ensures { (μ : Marking) → Placeable (pattern_in crossed.now.matrix) μ l p →
+            KeepsOn crossed.now μ self.old → KeepsOn crossed.now (marking_with μ l p) self.new }
     {
         let Kept {
             marks,
@@ -66,7 +66,7 @@ impl Kept {
             sums,
             loads,
         } = self;
-        let Tables { starts, cross, .. } = tables;
+        let Crossed { starts, cross, .. } = *crossed;
         marks[l] = p;
         settle(starts, cross, marks, by, left, kinds, tally, sums, l);
         let mark = usize::from(p);
@@ -81,10 +81,10 @@ impl Kept {
     }
 
     // Line l loses its mark, the last that was placed.
-    pub(crate) fn pop(&mut self, tables: &Tables<'_>, l: usize)
-        requires { PoppableOn tables.now self.old l }
-        ensures { (μ : Marking) (p : ℕ) → Placeable (pattern_in tables.now.matrix) μ l p →
-            KeepsOn tables.now (marking_with μ l p) self.old → KeepsOn tables.now μ self.new }
+    pub(crate) fn pop(&mut self, crossed: &Crossed<'_, '_>, l: usize)
+        requires { PoppableOn crossed.now self.old l }
+        ensures { (μ : Marking) (p : ℕ) → Placeable (pattern_in crossed.now.matrix) μ l p →
+            KeepsOn crossed.now (marking_with μ l p) self.old → KeepsOn crossed.now μ self.new }
     {
         let Kept {
             marks,
@@ -95,7 +95,7 @@ impl Kept {
             sums,
             loads,
         } = self;
-        let Tables { starts, cross, .. } = tables;
+        let Crossed { starts, cross, .. } = *crossed;
         let mark = usize::from(marks[l]);
         let mut gain = 1;
         if mark < 2 {

@@ -10,7 +10,7 @@ ghost use Rattle.pattern.specs.Matrix.{pattern_in};
 ghost use Rattle.running.specs.Run.{rules_in, Tryable};
 
 use crate::beginning::run_from;
-use crate::tables::Tables;
+use crate::tables::Ranked;
 use marking::marks::marks_by_line;
 use model::{Caps, Refusal, Search, Shown, Word};
 use pattern::checks::{list_verdict, refuse_if};
@@ -24,9 +24,9 @@ use weighing::taking::taken_of;
 
 // The floor of a search that is not refused. Every open marking is tried and taken as full: the trail, and at most two later marks for each of
 // its own. Each that stands lowers the best count to its bound.
-fn floor_shown(search: Search, tables: &Tables<'_>) -> u64
-    requires { Tryable tables.now search }
-    ensures { result ≡ floor (rules_in search tables.now.matrix) (record_of search) }
+fn floor_shown(search: Search, ranked: &Ranked<'_>) -> u64
+    requires { Tryable ranked.now.matrix search }
+    ensures { result ≡ floor (rules_in search ranked.now.matrix) (record_of search) }
 {
     if search.complete {
         return search.best_count;
@@ -34,37 +34,37 @@ fn floor_shown(search: Search, tables: &Tables<'_>) -> u64
     let from = normal(search);
     let trail = from.trail;
     let open = 2 * trail.len + 1;
-    let after = run_from(from, tables, 0, open as u64);
+    let after = run_from(from, ranked, 0, open as u64);
     after.best_count
 }
 
 // Writes the split that a marking shows to the parts, and gives its volume.
-fn show_split(best: Trail, tables: &Tables<'_>, caps: Caps, parts: &mut [u8]) -> u64
-    ensures volume { best.len ≤ mark_room → tables.now.matrix.nonzeros ≤ length parts.old →
-        result ≡ volume (pattern_in tables.now.matrix) (shown_from (pattern_in tables.now.matrix) caps (marks_in best)) }
+fn show_split(best: Trail, ranked: &Ranked<'_>, caps: Caps, parts: &mut [u8]) -> u64
+    ensures volume { best.len ≤ mark_room → ranked.now.matrix.nonzeros ≤ length parts.old →
+        result ≡ volume (pattern_in ranked.now.matrix) (shown_from (pattern_in ranked.now.matrix) caps (marks_in best)) }
     ensures parts { best.len ≤ mark_room →
-        parts.new ≡ part_bytes (shown_from (pattern_in tables.now.matrix) caps (marks_in best)) tables.now.matrix.nonzeros parts.old }
+        parts.new ≡ part_bytes (shown_from (pattern_in ranked.now.matrix) caps (marks_in best)) ranked.now.matrix.nonzeros parts.old }
 {
-    let by_line = marks_by_line(tables.matrix.lines(), &tables.places, &cleared(best));
-    let taken = taken_of(&tables.matrix, &by_line);
-    write_split(&tables.matrix, caps, &by_line, taken.zero, parts);
-    volume_of(&tables.matrix, parts)
+    let by_line = marks_by_line(ranked.matrix.lines(), &ranked.places, &cleared(best));
+    let taken = taken_of(&ranked.matrix, &by_line);
+    write_split(&ranked.matrix, caps, &by_line, taken.zero, parts);
+    volume_of(&ranked.matrix, parts)
 }
 
 // A showing of a state that is not refused, with room for its parts.
-fn show_fine(search: Search, tables: &Tables<'_>, parts: &mut [u8]) -> Shown
-    requires tryable { Tryable tables.now search }
-    requires room { tables.now.matrix.nonzeros ≤ length parts.old }
-    ensures answer { result ≡ shown (pattern_in tables.now.matrix) (caps_in search) (record_of search).best (floor (rules_in search tables.now.matrix) (record_of search)) }
-    ensures parts { parts.new ≡ shown_parts (pattern_in tables.now.matrix) (caps_in search) (record_of search).best parts.old }
+fn show_fine(search: Search, ranked: &Ranked<'_>, parts: &mut [u8]) -> Shown
+    requires tryable { Tryable ranked.now.matrix search }
+    requires room { ranked.now.matrix.nonzeros ≤ length parts.old }
+    ensures answer { result ≡ shown (pattern_in ranked.now.matrix) (caps_in search) (record_of search).best (floor (rules_in search ranked.now.matrix) (record_of search)) }
+    ensures parts { parts.new ≡ shown_parts (pattern_in ranked.now.matrix) (caps_in search) (record_of search).best parts.old }
 {
-    let floor = floor_shown(search, tables);
+    let floor = floor_shown(search, ranked);
     if search.found {
         let caps = Caps {
             cap0: search.cap0,
             cap1: search.cap1,
         };
-        let volume = show_split(search.best, tables, caps, parts);
+        let volume = show_split(search.best, ranked, caps, parts);
         return Shown::Split { volume, floor };
     }
     Shown::NoneYet { floor }
@@ -90,13 +90,13 @@ pub fn show_search(
         nonzeros: nonzeros as u16,
         list,
     };
-    let tables = Tables::of(&matrix);
-    let fine = state_fine(search, &tables.matrix, &tables.places, tables.full);
+    let ranked = Ranked::of(&matrix);
+    let fine = state_fine(search, &ranked.matrix, &ranked.places, ranked.full);
     refuse_if(!fine, Word::State, 0)?;
     refuse_if(
-        parts.len() < usize::from(tables.matrix.nonzeros),
+        parts.len() < usize::from(ranked.matrix.nonzeros),
         Word::ShortBuffer,
         0,
     )?;
-    Ok(show_fine(search, &tables, parts))
+    Ok(show_fine(search, &ranked, parts))
 }

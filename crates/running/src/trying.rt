@@ -13,13 +13,13 @@ use pattern::cap::unequal_caps;
 // So many tries from a search, or fewer only because it became complete, with k marks for a full trail.
 pub(crate) fn walk_on(
     search: Search,
-    tables: &Tables<'_>,
+    tables: &Tables<'_, '_>,
     kept: &mut Kept,
     k: u16,
     budget: u64,
 ) -> Search
     requires { Walkable search tables.now kept.old k budget }
-    ensures { result ≡ search_of (walk_to (rules_in search tables.now.matrix) k budget (record_of search)) }
+    ensures { result ≡ search_of (walk_to (rules_in search tables.now.crossed.matrix) k budget (record_of search)) }
 {
     let caps = Caps {
         cap0: search.cap0,
@@ -38,7 +38,7 @@ pub(crate) fn walk_on(
         let len = trail.len;
         let l = usize::from(tables.order[len - 1]);
         let p = trail.last();
-        let tried = kept.try_mark(tables, l, p, caps, count);
+        let tried = kept.try_mark(&tables.crossed, l, p, caps, count);
         looks = looks + tried.looks;
         if tried.stands && len < full {
             trail = trail.append(0);

@@ -7,7 +7,7 @@ ghost use Rattle.model.specs.State.{stack};
 ghost use Rattle.pattern.specs.Matrix.{pattern_in};
 
 use crate::kept::Kept;
-use crate::tables::Tables;
+use crate::tables::{Crossed, Tables};
 use model::Caps;
 
 // Whether a trail stands, the least of the best count and its bound, and the looks of its try.
@@ -26,20 +26,20 @@ impl Kept {
     // A try with mark p for line l, the next in order. The mark stays if the trail with it stands.
     pub(crate) fn try_mark(
         &mut self,
-        tables: &Tables<'_>,
+        crossed: &Crossed<'_, '_>,
         l: usize,
         p: u8,
         caps: Caps,
         best: u64,
     ) -> Tried
-        requires { Attemptable tables.now self.old l p caps }
-        ensures { (τ : List ℕ) → Next (pattern_in tables.now.matrix) caps τ l p →
-            KeepsOn tables.now (marking (pattern_in tables.now.matrix) τ) self.old →
-            Attempted (pattern_in tables.now.matrix) caps τ p best result self.new }
+        requires { Attemptable crossed.now self.old l p caps }
+        ensures { (τ : List ℕ) → Next (pattern_in crossed.now.matrix) caps τ l p →
+            KeepsOn crossed.now (marking (pattern_in crossed.now.matrix) τ) self.old →
+            Attempted (pattern_in crossed.now.matrix) caps τ p best result self.new }
     {
         if self.is_fit(l, p, caps) {
-            self.push(tables, l, p);
-            let judged = self.judge(tables, tables.counts[l], caps, best);
+            self.push(crossed, l, p);
+            let judged = self.judge(crossed, crossed.counts[l], caps, best);
             let least = judged.least;
             if least < best {
                 return Tried {
@@ -48,7 +48,7 @@ impl Kept {
                     looks: judged.looks,
                 };
             }
-            self.pop(tables, l);
+            self.pop(crossed, l);
             return Tried {
                 stands: false,
                 least,
@@ -63,14 +63,14 @@ impl Kept {
     }
 
     // Lifts marks from the end, from so many down to so many.
-    pub(crate) fn lift(&mut self, tables: &Tables<'_>, from: usize, to: usize)
+    pub(crate) fn lift(&mut self, tables: &Tables<'_, '_>, from: usize, to: usize)
         requires { Liftable tables.now self.old from }
-        ensures { (caps : Caps) (mark : ℕ → ℕ) → Standing (rules_of (pattern_in tables.now.matrix) caps) (stack mark from) → to ≤ from →
-            KeepsOn tables.now (marking (pattern_in tables.now.matrix) (stack mark from)) self.old →
-            KeepsOn tables.now (marking (pattern_in tables.now.matrix) (stack mark to)) self.new }
+        ensures { (caps : Caps) (mark : ℕ → ℕ) → Standing (rules_of (pattern_in tables.now.crossed.matrix) caps) (stack mark from) → to ≤ from →
+            KeepsOn tables.now.crossed (marking (pattern_in tables.now.crossed.matrix) (stack mark from)) self.old →
+            KeepsOn tables.now.crossed (marking (pattern_in tables.now.crossed.matrix) (stack mark to)) self.new }
     {
         for at in (to..from).rev() {
-            self.pop(tables, usize::from(tables.order[at]));
+            self.pop(&tables.crossed, usize::from(tables.order[at]));
         }
     }
 }

@@ -1,10 +1,14 @@
--- Worked samples of real values.
+-- Worked samples of real values, and of lines that have not their form.
 -- Assumes nothing.
-use Rattle.std.specs.Prelude.{Bool, true, false, List, [], ◌∷◌, ◌≡◌, refl, ℕ, length}
+use Rattle.std.specs.Prelude.{Bool, true, false, Result, Err, List, [], ◌∷◌, ◌≡◌, refl, ℕ, length}
 use Rattle.counting.specs.Tests.{◌and◌, ◌or◌, pick}
-use Rattle.scanning.specs.Classes.{between, class_of}
+use Rattle.scanning.specs.declared.Field.{Field}
+use Rattle.scanning.specs.declared.Field.TheVariants.{Pattern, Integer, Real}
+use Rattle.scanning.specs.declared.Numbers.{Numbers}
+use Rattle.scanning.specs.Classes.{between, class_of, digit_of}
 use Rattle.scanning.specs.Lines.{past, stretches_at, stretch_end}
 use Rattle.scanning.specs.Reals.{past_either, is_exponent, is_real}
+use Rattle.scanning.specs.Words.{word_at, is_number, value_of, number_between, number_at, ends_at, numbers_at}
 
 -- a word as a whole is a real value
 abbrev real : List ℕ → Bool
@@ -12,7 +16,7 @@ real word = is_real word 0 (length word)
 
 -- to unfold this is to unfold every definition that a sample computes with
 computing : Type 0
-unfolding is_real is_exponent past_either stretch_end stretches_at past class_of between ◌and◌ ◌or◌ pick
+unfolding numbers_at ends_at number_at number_between value_of is_number word_at is_real is_exponent past_either stretch_end stretches_at past digit_of class_of between ◌and◌ ◌or◌ pick
 computing = Unit
 
 -- real values: 7  7.  .5  0.25  -7  +.5  5.e3  1e5  1E-05  +0.0e+00  12345678901234567890.5
@@ -49,3 +53,16 @@ no_values :
     × (real [] ≡ false)
 unfolding computing
 no_values = (refl, refl, refl, refl, refl, refl, refl, refl, refl, refl, refl, refl, refl, refl)
+
+-- the numbers of a whole line
+abbrev numbers : List ℕ → Field → Result Numbers Numbers
+numbers line field = numbers_at line 0 (length line) field
+
+-- what the words of a line give that has not its form: 2 x 7 and 1 2 3 4 as integer, 1 2 3 as pattern, 1 2 x as real
+no_form :
+    (numbers (50 ∷ 32 ∷ 120 ∷ 32 ∷ 55 ∷ []) Integer ≡ Err (record { first = 2; second = 0; third = 7 }))
+    × (numbers (49 ∷ 32 ∷ 50 ∷ 32 ∷ 51 ∷ 32 ∷ 52 ∷ []) Integer ≡ Err (record { first = 1; second = 2; third = 3 }))
+    × (numbers (49 ∷ 32 ∷ 50 ∷ 32 ∷ 51 ∷ []) Pattern ≡ Err (record { first = 1; second = 2; third = 1 }))
+    × (numbers (49 ∷ 32 ∷ 50 ∷ 32 ∷ 120 ∷ []) Real ≡ Err (record { first = 1; second = 2; third = 1 }))
+unfolding computing
+no_form = (refl, refl, refl, refl)

@@ -1,6 +1,6 @@
 -- Document 01, 'Texts': words, numbers, and lines of numbers; request 1 of document 02: lines with a real value.
 -- Assumes nothing.
-use Rattle.std.specs.Prelude.{Bool, true, false, Option, Some, None, List, ℕ, zero, suc, ◌+◌, ◌-◌, ◌*◌, eqb, ltb, leb, length, get_or}
+use Rattle.std.specs.Prelude.{Bool, true, false, Option, Some, None, is_some, unwrap_or, Result, Ok, Err, List, ℕ, zero, suc, ◌+◌, ◌-◌, ◌*◌, eqb, ltb, leb, length, get_or}
 use Rattle.counting.specs.Tests.{◌and◌, pick}
 use Rattle.scanning.specs.declared.Stretch.TheVariants.{Blanks, Nonblanks, Digits}
 use Rattle.scanning.specs.declared.Field.{Field}
@@ -63,23 +63,23 @@ third_at Real text at end =
     let word = word_at text at end in
     record { value = pick (is_real text word.from word.stop) (Some 1) None; stop = word.stop }
 
--- three numbers, where each of them is there
-unfoldable pub all_three : Option ℕ → Option ℕ → Option ℕ → Option Numbers
-all_three None second third = None
-all_three (Some a) None third = None
-all_three (Some a) (Some b) None = None
-all_three (Some a) (Some b) (Some c) = Some (record { first = a; second = b; third = c })
-
--- "i j", "i j p" or "i j v", and no further word
-unfoldable pub numbers_at : List ℕ → ℕ → ℕ → Field → Option Numbers
-numbers_at text at end field =
-    let a = number_at text at end in
-    let b = number_at text a.stop end in
-    let c = third_at field text b.stop end in
-    pick (ends_at text c.stop end) (all_three a.value b.value c.value) None
-
 -- F is integer: its entries have parts
 abbrev pub is_integer : Field → Bool
 is_integer Pattern = false
 is_integer Integer = true
 is_integer Real = false
+
+-- "i j", "i j p" or "i j v", and no further word: Ok with these numbers, and Err with what the words give where the line has not that form;
+-- a word that is no number gives 0, and 1 as the third of real
+unfoldable pub numbers_at : List ℕ → ℕ → ℕ → Field → Result Numbers Numbers
+numbers_at text at end field =
+    let a = number_at text at end in
+    let b = number_at text a.stop end in
+    let c = third_at field text b.stop end in
+    let numbers : Numbers = record { first = unwrap_or a.value 0; second = unwrap_or b.value 0; third = unwrap_or c.value (pick (is_integer field) 0 1) } in
+    pick ((is_some a.value and is_some b.value) and (is_some c.value and ends_at text c.stop end)) (Ok numbers) (Err numbers)
+
+-- the numbers of a line, whether it has its form or not
+abbrev pub numbers_in : Result Numbers Numbers → Numbers
+numbers_in (Ok numbers) = numbers
+numbers_in (Err numbers) = numbers

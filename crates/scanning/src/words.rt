@@ -50,27 +50,31 @@ pub fn is_number(text: &[u8], from: usize, stop: usize) -> bool
     from < stop && stop - from <= 9 && stretch_end(text, Stretch::Digits, from, stop) == stop
 }
 
-// The value of the number between two places, where there is one.
-#[tactic(auto, using(crate::proofs::Joins::joins, crate::proofs::Scans::number_start, crate::proofs::Scans::number_long, crate::proofs::Scans::value_small, crate::proofs::Scans::value_start, crate::proofs::Scans::value_next, crate::proofs::Scans::digit_small), unfolding(crate::specs::Words::number_between))]
-pub fn number_between(text: &[u8], from: usize, stop: usize) -> Option<u32>
-    ensures { result ≡ number_between text.now from stop }
+// The value of a number, and 0 where there is none.
+#[tactic(auto, using(crate::proofs::Joins::joins, crate::proofs::Scans::number_start, crate::proofs::Scans::number_long, crate::proofs::Scans::value_small, crate::proofs::Scans::value_start, crate::proofs::Scans::value_next, crate::proofs::Scans::digit_small), unfolding(crate::specs::Words::number_value))]
+pub fn number_value(text: &[u8], from: usize, stop: usize) -> u32
+    ensures { result ≡ number_value text.now from stop }
 {
     if !is_number(text, from, stop) {
-        return None;
+        return 0;
     }
     let mut value = 0;
     for i in from..stop {
         value = value * 10 + u32::from(digit_of(byte_at(text, i)));
     }
-    Some(value)
+    value
 }
 
-// The value of a number, and 0 where there is none.
+// The number between two places, where there is one.
 #[tactic(auto, using(crate::proofs::Joins::joins), unfolding(crate::specs::Words::number_value, crate::specs::Words::number_between))]
-pub fn number_value(text: &[u8], from: usize, stop: usize) -> u32
-    ensures { result ≡ number_value text.now from stop }
+pub fn number_between(text: &[u8], from: usize, stop: usize) -> Option<u32>
+    ensures { result ≡ number_between text.now from stop }
 {
-    number_between(text, from, stop).unwrap_or(0)
+    if is_number(text, from, stop) {
+        Some(number_value(text, from, stop))
+    } else {
+        None
+    }
 }
 
 // The next word of a line as a number.
@@ -114,22 +118,27 @@ fn third_at(text: &[u8], at: usize, end: usize, field: Field) -> Number
     }
 }
 
-// The numbers of a line, as the field has them, where it has them and no further word.
-#[tactic(auto, using(crate::proofs::Joins::joins), unfolding(crate::specs::Words::numbers_at, crate::specs::Words::all_three))]
-pub fn numbers_at(text: &[u8], at: usize, end: usize, field: Field) -> Option<Numbers>
+// The numbers of a line, as the field has them: `Ok` where the line has them and no further word, else `Err` with what its words give;
+// a word that is no number gives 0, and 1 as the third of real.
+#[tactic(auto, using(crate::proofs::Joins::joins), unfolding(crate::specs::Words::numbers_at))]
+pub fn numbers_at(text: &[u8], at: usize, end: usize, field: Field) -> Result<Numbers, Numbers>
     ensures { result ≡ numbers_at text.now at end field }
 {
     let a = number_at(text, at, end);
     let b = number_at(text, a.stop, end);
     let c = third_at(text, b.stop, end, field);
-    if !ends_at(text, c.stop, end) {
-        return None;
+    let without = if is_integer(field) { 0 } else { 1 };
+    let numbers = Numbers {
+        first: a.value.unwrap_or(0),
+        second: b.value.unwrap_or(0),
+        third: c.value.unwrap_or(without),
+    };
+    let all = a.value.is_some() && b.value.is_some() && c.value.is_some();
+    if all && ends_at(text, c.stop, end) {
+        Ok(numbers)
+    } else {
+        Err(numbers)
     }
-    Some(Numbers {
-        first: a.value?,
-        second: b.value?,
-        third: c.value?,
-    })
 }
 
 // The field's entries have parts.

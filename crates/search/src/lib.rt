@@ -15,7 +15,7 @@ use state::holding::fresh_search;
 use state::lines::line_total;
 
 /// Opens a search of a pattern under cap 0 and cap 1. Refused with 4, 9, 17, 5 and 10 for the list, then with 11 for a cap outside its range
-/// and with 12 where no split can meet both.
+/// and with 12 where no split can meet both. A refused opening has no search: `state::holding::no_search` is the one with 0 in every field.
 #[tactic(auto, unfolding(model::specs::Calls::open_call))]
 pub fn open(
     m: u64,

@@ -25,7 +25,7 @@ pub(crate) fn say_calls(
 ) -> io::Result<()> {
     let ran = current.ran(1);
     print!(rt; "{words}")?;
-    say_run(rt, ran.answer)?;
+    say_run(rt, ran.answer);
     say_same(rt, &current.search, &ran.search)?;
     print!(rt; ", show")?;
     shows(rt, current, &mut [9u8; PART_ROOM], room)
@@ -33,7 +33,7 @@ pub(crate) fn say_calls(
 
 // What an opening answers to the list of a pattern, and what a run and a showing of the search do.
 pub(crate) fn list(rt: &impl Print, cases: &mut Cases<'_>, current: &Current) -> io::Result<()> {
-    say_field(rt, cases)?;
+    say_field(rt, cases);
     let mut asked = Current::fresh(cases);
     print!(rt; ": open")?;
     say_verdict(rt, asked.verdict)?;
@@ -44,7 +44,7 @@ pub(crate) fn list(rt: &impl Print, cases: &mut Cases<'_>, current: &Current) ->
 // What a showing answers with the parts that are given.
 pub(crate) fn into(rt: &impl Print, cases: &mut Cases<'_>, current: &Current) -> io::Result<()> {
     let mut parts = [9u8; PART_ROOM];
-    say_field(rt, cases)?;
+    say_field(rt, cases);
     let room = cases.field(Kind::Numbers, &mut parts);
     print!(rt; ":")?;
     shows(rt, current, &mut parts, room)

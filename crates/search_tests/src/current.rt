@@ -2,9 +2,9 @@
 use model::limits::{LIST_ROOM, PART_ROOM, SIDE_ROOM};
 use model::{Caps, Ran, Refusal, Search};
 use pattern::reading::put_entry;
+use state::holding::no_search;
 use testing::cases::Cases;
 use testing::patterns::Pattern;
-use testing::searches::NO_SEARCH;
 
 // A pattern and its caps; whether its opening was accepted, and its search.
 #[derive(Clone, Copy)]
@@ -53,7 +53,7 @@ impl Current {
         );
         let (verdict, search) = match opened {
             Ok(search) => (Ok(()), search),
-            Err(refusal) => (Err(refusal), NO_SEARCH),
+            Err(refusal) => (Err(refusal), no_search()),
         };
         Current {
             pattern,

@@ -47,14 +47,14 @@ pub(crate) fn put(cases: &mut Cases<'_>, current: &mut Current) {
 // What a run and a showing of the search answer where one of its numbers or markings is replaced. The search itself stays.
 pub(crate) fn damaged(rt: &impl Print, cases: &mut Cases<'_>, current: &Current) -> io::Result<()> {
     let mut odd = *current;
-    say_field(rt, cases)?;
+    say_field(rt, cases);
     put(cases, &mut odd);
     say_calls(rt, ": run", &odd, 6)
 }
 
 // Whether the search is the one of a pattern after so many tries.
 pub(crate) fn equal(rt: &impl Print, cases: &mut Cases<'_>, current: &Current) -> io::Result<()> {
-    say_field(rt, cases)?;
+    say_field(rt, cases);
     let mut other = Current::fresh(cases);
     other.go_on(cases);
     print!(rt; ":")?;

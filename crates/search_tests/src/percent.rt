@@ -9,7 +9,10 @@ use testing::saying::say_refused;
 fn say_cap(rt: &impl Print, answer: Result<Capped, Refusal>) -> io::Result<()> {
     match answer {
         Ok(Capped { cap, rest }) => print!(rt; " {cap} rest {rest}"),
-        Err(refusal) => say_refused(rt, refusal),
+        Err(refusal) => {
+            say_refused(rt, refusal);
+            Ok(())
+        }
     }
 }
 

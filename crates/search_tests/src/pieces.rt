@@ -13,7 +13,7 @@ pub(crate) fn run(rt: &impl Print, cases: &mut Cases<'_>, current: &mut Current)
     let ran = current.ran(budget);
     current.search = ran.search;
     print!(rt; "  run {budget}")?;
-    say_run(rt, ran.answer)?;
+    say_run(rt, ran.answer);
     let tries = ran.search.tries;
     println!(rt; " tries {tries}")
 }
@@ -24,7 +24,8 @@ fn run_with(rt: &impl Print, current: &mut Current, low: u8, high: u8) -> io::Re
     current.pattern.room[5] = high;
     let ran = current.ran(5);
     current.search = ran.search;
-    say_run(rt, ran.answer)
+    say_run(rt, ran.answer);
+    Ok(())
 }
 
 // A run off the matrix, a run with a number that is split, and a showing whose parts have one byte too few: all are refused, and change nothing.

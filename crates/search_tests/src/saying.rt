@@ -9,7 +9,7 @@ use trail::Trail;
 
 // The words of a case, on a line of their own.
 pub(crate) fn text(rt: &impl Print, cases: &mut Cases<'_>) -> io::Result<()> {
-    say_field(rt, cases)?;
+    say_field(rt, cases);
     println!(rt)
 }
 
@@ -60,7 +60,10 @@ fn say_best(rt: &impl Print, search: &Search) -> io::Result<()> {
 pub(crate) fn say_verdict(rt: &impl Print, verdict: Result<(), Refusal>) -> io::Result<()> {
     match verdict {
         Ok(()) => print!(rt; " accepted"),
-        Err(refusal) => say_refused(rt, refusal),
+        Err(refusal) => {
+            say_refused(rt, refusal);
+            Ok(())
+        }
     }
 }
 

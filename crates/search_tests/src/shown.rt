@@ -19,7 +19,10 @@ fn say_show(
             say_marks(rt, parts, len)
         }
         Ok(Shown::NoneYet { floor }) => print!(rt; " floor {floor} none yet"),
-        Err(refusal) => say_refused(rt, refusal),
+        Err(refusal) => {
+            say_refused(rt, refusal);
+            Ok(())
+        }
     }
 }
 

@@ -29,7 +29,7 @@ pub(crate) fn walk(rt: &impl Print, cases: &mut Cases<'_>) -> io::Result<()> {
     let mut current = Current::fresh(cases);
     say_sizes(rt, "pattern", &current)?;
     print!(rt; "\n  ")?;
-    say_field(rt, &mut cells)?;
+    say_field(rt, &mut cells);
     println!(rt)?;
     say_search(rt, &current)?;
     walk_on(rt, &mut current)?;

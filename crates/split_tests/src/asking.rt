@@ -10,7 +10,7 @@ use testing::saying::say_field;
 // The name of an input, on a line of its own.
 pub(crate) fn say_name(rt: &impl Print, cases: &mut Cases<'_>) -> io::Result<()> {
     print!(rt; "# ")?;
-    say_field(rt, cases)?;
+    say_field(rt, cases);
     println!(rt)
 }
 

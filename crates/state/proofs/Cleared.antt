@@ -21,7 +21,7 @@ unfolding kept_to stack
 kept_none marks = refl
 
 -- one mark more
-kept_more : (marks : List ℕ) (i : ℕ) → set (kept_to marks i) i (get_or marks i 0) ≡ kept_to marks (suc i)
+pub kept_more : (marks : List ℕ) (i : ℕ) → set (kept_to marks i) i (get_or marks i 0) ≡ kept_to marks (suc i)
 unfolding kept_to stack array_of
 kept_more marks i =
     ap

@@ -7,9 +7,9 @@ use Prim.Native.Nat.{ℕ, zero, suc, ◌+◌, ◌≤◌}
 use native.Mathlib.Omega.{arith}
 use lib.Dec.{eqb, leb}
 use lib.ListN.{length, get_or}
-use borrow.Author.Tests.{eq-eqb, ne_eqb, eqb-true, leb-true, not-true}
+use borrow.Author.Tests.{eq-eqb, ne_eqb, eqb-true, leb-true, le-leb, not-true}
 use Rattle.counting.specs.Tests.{◌and◌, pick}
-use Rattle.counting.proofs.Joined.{no_way, clash, and_left, and_right, pick_true, pick-false, and_fails_left, and_fails_right, and-turned, and_all}
+use Rattle.counting.proofs.Joined.{no_way, clash, and_left, and_right, and_intro, pick_true, pick-false, and_fails_left, and_fails_right, and-turned, and_all}
 use Rattle.trail.specs.declared.Trail.{Trail}
 use Rattle.trail.specs.Trail.{mark_room, mark_or}
 use Rattle.model.specs.declared.Search.{Search}
@@ -176,6 +176,21 @@ state_is R m n nonzeros s trail best a b =
     and counts_fine s.tries s.looks m nonzeros
     and a i
     and b i
+
+-- the last of the tests of numbers
+pub numbers_last :
+    (s : Search) (m n nonzeros : ℕ) → s.m ≡ m → s.n ≡ n → s.nonzeros ≡ nonzeros → caps_outside (caps_in s) ≡ false →
+    nonzeros ≤ s.cap0 + s.cap1 → counts_fine s.tries s.looks m nonzeros ≡ numbers_by s m n nonzeros
+unfolding numbers_by ◌and◌
+numbers_last s m n nonzeros a b c d e =
+    sym
+    (ap
+    (λ (x : Bool). x and counts_fine s.tries s.looks m nonzeros)
+    (and_intro
+    (and_intro
+    (and_intro (and_intro (eq-eqb s.m m a) (eq-eqb s.n n b)) (eq-eqb s.nonzeros nonzeros c))
+    (ap not d))
+    (le-leb nonzeros (s.cap0 + s.cap1) e)))
 
 -- a best marking that is not valid is not full
 pub never_full : (best : Trail) (k : ℕ) (valid : Bool) (count : ℕ) → valid ≡ false → false ≡ full_by best k valid count

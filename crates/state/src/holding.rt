@@ -103,8 +103,8 @@ pub fn fresh_search(m: u64, n: u64, nonzeros: u64, caps: Caps, k: u16) -> Search
     begun(m, n, nonzeros, caps, k - 1)
 }
 
-// A search with nothing in it.
-fn no_search() -> Search
+/// The search that stands where an opening is refused: 0 in every field, with no marks and no best marking, and not complete.
+pub fn no_search() -> Search
     ensures { result ≡ search_of no_record }
 {
     let best = no_trail();

@@ -1,3 +1,4 @@
 pub mod Cases
 pub mod Laid
 pub mod Patterns
+pub mod Turns

@@ -1,7 +1,8 @@
 // The cases of a test, read field by field from a program's input. A field ends with a bar, with its line or with the input.
-ghost use Rattle.std.specs.Prelude.{◌≡◌, get_or, []};
+ghost use Rattle.std.specs.Prelude.{◌≡◌, ◌≤◌, ◌<◌, MatchOption, get_or, []};
 ghost use Rattle.testing.specs.declared.Kind.TheVariants.{Text};
 ghost use Rattle.testing.specs.Laid.{place_past, laid};
+ghost use Rattle.testing.specs.Turns.{letter_of, past_kind, Answered};
 ghost use Rattle.testing.specs.Cases.{ends_field, place_next, field_of, escaped_byte, letter_given, is_digit, grown, digits_at, number_at, number_of, past_number, number_given, given, bytes_of, field_at, list_at, ends_laid};
 
 use crate::laying::{first, lay};
@@ -75,23 +76,38 @@ impl Cases<'_> {
         self.field(Kind::Text, &mut []);
         letter
     }
+
+    /// The first letter of the kind of the next case, which is passed over, or `None` where no case begins before a place.
+    pub fn next_case(&mut self, end: usize) -> Option<u8>
+        ensures { MatchOption result ((end ≤ self.old.at) × (self.new ≡ self.old))
+            (λ letter. (self.old.at < end) × (letter ≡ letter_of self.old) × (self.new ≡ past_kind self.old)) }
+    {
+        if end <= self.at {
+            return None;
+        }
+        Some(self.kind())
+    }
 }
 
-/// Answers the cases that begin before a place, one by one: the function takes the first letter of a case's kind, and reads its fields.
+/// Answers the cases that begin before a place, one by one: the function takes the first letter of a case's kind, and reads its fields. It is
+/// called up to its first error, and as often as there are bytes before that place at most.
 pub fn each_case<F: FnMut(u8, &mut Cases<'_>) -> io::Result<()>>(
     text: &[u8],
     end: usize,
     mut answer: F,
 ) -> io::Result<()>
     requires { F.IsAlwaysCallable answer }
+    ensures { (last : F) × Answered F.FnMut end end answer (record { text = text.entry; at = 0 }) result last }
 {
     let mut cases = Cases { text, at: 0 };
     for _ in 0..end {
-        if end <= cases.at {
+        let Some(kind) = cases.next_case(end) else {
             break;
+        };
+        let answered = answer(kind, &mut cases);
+        if answered.is_err() {
+            return answered;
         }
-        let kind = cases.kind();
-        answer(kind, &mut cases)?;
     }
     Ok(())
 }
@@ -197,9 +213,9 @@ fn digits_at(text: &[u8], at: usize) -> Field
     }
 }
 
-// The number of a field.
+/// The number of a field.
 #[tactic(auto, unfolding(crate::specs::Cases::number_at))]
-fn number_at(text: &[u8], at: usize) -> Field
+pub fn number_at(text: &[u8], at: usize) -> Field
     ensures { result ≡ number_at text.now at }
 {
     let digits = digits_at(text, at);
@@ -242,9 +258,9 @@ fn lay_given(page: &mut [u8], at: usize, kind: Kind, value: u64) -> usize
     }
 }
 
-// The bytes of a field, laid out in a page from its start on. What falls past the page's end is left out, and counted.
+/// The bytes of a field, laid out in a page from its start on. What falls past the page's end is left out, and counted.
 #[tactic(auto, unfolding(crate::specs::Cases::field_at))]
-fn field_at(text: &[u8], at: usize, kind: Kind, page: &mut [u8]) -> Field
+pub fn field_at(text: &[u8], at: usize, kind: Kind, page: &mut [u8]) -> Field
     ensures { (result ≡ (field_at kind text.now at page.old).0)
         × (page.new ≡ (field_at kind text.now at page.old).1) }
 {
@@ -262,9 +278,9 @@ fn field_at(text: &[u8], at: usize, kind: Kind, page: &mut [u8]) -> Field
     field_of(text, len as u64, next)
 }
 
-// The bytes of a list, laid out in a page from its start on: of its row and column numbers, or one by one after the letter b and a blank.
+/// The bytes of a list, laid out in a page from its start on: of its row and column numbers, or one by one after the letter b and a blank.
 #[tactic(auto, unfolding(crate::specs::Cases::list_at, counting::specs::Tests::pick))]
-fn list_at(text: &[u8], at: usize, page: &mut [u8]) -> Field
+pub fn list_at(text: &[u8], at: usize, page: &mut [u8]) -> Field
     ensures { (result ≡ (list_at text.now at page.old).0)
         × (page.new ≡ (list_at text.now at page.old).1) }
 {
@@ -276,9 +292,9 @@ fn list_at(text: &[u8], at: usize, page: &mut [u8]) -> Field
     field_at(text, at, Kind::Lines, page)
 }
 
-// A text's start laid out at a page's start, and its end, of at most 128 bytes, before a place: two fields. Gives the place of the next one.
+/// A text's start laid out at a page's start, and its end, of at most 128 bytes, before a place: two fields. Gives the place of the next one.
 #[tactic(auto, unfolding(crate::specs::Cases::ends_laid))]
-fn lay_ends(text: &[u8], at: usize, stop: usize, page: &mut [u8]) -> usize
+pub fn lay_ends(text: &[u8], at: usize, stop: usize, page: &mut [u8]) -> usize
     ensures { (result ≡ (ends_laid text.now at stop page.old).0)
         × (page.new ≡ (ends_laid text.now at stop page.old).1) }
 {

@@ -7,6 +7,7 @@ pub mod laying;
 pub mod patterns;
 pub mod saying;
 pub mod searches;
+pub mod unfailing;
 
 // How the bytes of a field are written: as letters, or as numbers with one letter between two of them, which are bytes, or row and column
 // numbers of two bytes each, lowest first.
@@ -17,9 +18,9 @@ pub enum Kind {
     Lines,
 }
 
-// What a field gives, a number or how many bytes, and where the next field starts.
+/// What a field gives, a number or how many bytes, and where the next field starts.
 #[derive(Clone, Copy)]
-struct Field {
-    value: u64,
-    next: usize,
+pub struct Field {
+    pub value: u64,
+    pub next: usize,
 }

@@ -30,6 +30,8 @@ impl Pattern {
 
 impl Cases<'_> {
     /// The numbers of a pattern, whose list is still empty.
+    // Inlined, so that the room is made where it stays, and is not copied there.
+    #[inline(always)]
     pub fn sizes(&mut self) -> Pattern
         ensures m { result.m ≡ number_of self.old.text.now self.old.at }
         ensures n { result.n ≡ number_of self.old.text.now (past_number self.old.text.now self.old.at) }
@@ -70,6 +72,7 @@ impl Cases<'_> {
     }
 
     /// A pattern, whose list comes after its numbers.
+    #[inline(always)]
     pub fn pattern(&mut self) -> Pattern
         ensures m { result.m ≡ number_of self.old.text.now self.old.at }
         ensures n { result.n ≡ number_of self.old.text.now (past_number self.old.text.now self.old.at) }

@@ -1,7 +1,6 @@
 -- Document 01, 'Texts' and 'Refusal table', and request 1 of document 02: the entries in text order, each 3, 5, 16 for symmetric, 8, 6, with 7 for one too many or missing.
 -- Assumes nothing.
-use Rattle.std.specs.Prelude.{Ok, Err}
-use Rattle.std.specs.Prelude.{Bool, false, not, Option, Some, None, List, ℕ, zero, suc, ◌+◌, ◌-◌, ◌*◌, eqb, ltb, leb, length, get_or, set, replicate}
+use Rattle.std.specs.Prelude.{Bool, not, Result, Ok, Err, List, ℕ, zero, suc, ◌+◌, ◌-◌, ◌*◌, eqb, ltb, leb, length, get_or, set, replicate}
 use Rattle.counting.specs.Tests.{◌and◌, ◌or◌, pick, bit}
 use Rattle.model.specs.declared.Word.TheVariants.{EntryForm, OffMatrix, Repeated, Count, BadPart, AboveDiagonal}
 use Rattle.model.specs.Limits.{line_limit}
@@ -10,10 +9,10 @@ use Rattle.model.specs.Calls.{outside}
 use Rattle.texts.specs.declared.Header.{Header}
 use Rattle.scanning.specs.declared.Numbers.{Numbers}
 use Rattle.scanning.specs.Lines.{line_end, line_next, empty_line}
-use Rattle.scanning.specs.Words.{numbers_at}
+use Rattle.scanning.specs.Words.{numbers_at, numbers_in}
 
 -- the entry of a line: "i j", "i j p" for integer, or "i j v" for real
-unfoldable pub entry_at : List ℕ → Header → ℕ → Option Numbers
+unfoldable pub entry_at : List ℕ → Header → ℕ → Result Numbers Numbers
 entry_at text h at = numbers_at text at (line_end text at) h.field
 
 -- the cell of row i and column j, counted from 1, in a table with line_limit cells for each row
@@ -45,9 +44,9 @@ unfoldable pub above_diagonal : Header → Numbers → Bool
 above_diagonal h e = h.symmetric and ltb e.first e.second
 
 -- 3, 5, 16 for symmetric, 8, 6: the checks of an entry
-unfoldable pub entry_check : Header → Option Numbers → ℕ → List ℕ → Verdict
-entry_check h None place cells = refused EntryForm place
-entry_check h (Some e) place cells =
+unfoldable pub entry_check : Header → Result Numbers Numbers → ℕ → List ℕ → Verdict
+entry_check h (Err e) place cells = refused EntryForm place
+entry_check h (Ok e) place cells =
     refuse (outside h.m e.first or outside h.n e.second) OffMatrix place
     then refuse (above_diagonal h e) AboveDiagonal place
     then refuse (outside 2 e.third) BadPart place
@@ -67,15 +66,10 @@ opened h e cells =
     let mark = cell_mark e.third in
     set (set cells (cell_of e.first e.second) mark) (mirror_of h e) mark
 
--- the cells after the entry of a line, if it has one
-unfoldable pub noted_entry : Header → Option Numbers → List ℕ → List ℕ
-noted_entry h None cells = cells
-noted_entry h (Some e) cells = opened h e cells
-
 -- the cells after a line
 unfoldable pub noted : List ℕ → Header → ℕ → List ℕ → List ℕ
 noted text h at cells =
-    pick (empty_line text at) cells (noted_entry h (entry_at text h at) cells)
+    pick (empty_line text at) cells (opened h (numbers_in (entry_at text h at)) cells)
 
 -- 7: an entry missing
 unfoldable pub end_verdict : ℕ → Header → ℕ → Verdict

@@ -1,6 +1,6 @@
 -- Document 01, 'Texts', and request 1 of document 02: the first line, the size line, and the checks before the entries.
 -- Assumes nothing.
-use Rattle.std.specs.Prelude.{Bool, true, false, not, Option, Some, None, is_some, unwrap_or, List, [], ◌∷◌, ℕ, ◌*◌, eqb, ltb, length}
+use Rattle.std.specs.Prelude.{Bool, true, false, not, Option, Some, None, is_some, is_ok, unwrap_or, List, [], ◌∷◌, ℕ, ◌*◌, eqb, ltb, length}
 use Rattle.counting.specs.Tests.{◌and◌, ◌or◌, pick}
 use Rattle.model.specs.declared.Word.TheVariants.{Banner, SizeLine, TooBig, ShortBuffer, NotSquare}
 use Rattle.model.specs.Refusal.{Verdict, refuse, ◌then◌}
@@ -9,12 +9,11 @@ use Rattle.model.specs.Calls.{sizes_verdict}
 use Rattle.scanning.specs.declared.Stretch.TheVariants.{Nonblanks}
 use Rattle.scanning.specs.declared.Field.{Field}
 use Rattle.scanning.specs.declared.Field.TheVariants.{Pattern, Integer, Real}
-use Rattle.scanning.specs.declared.Numbers.{Numbers}
 use Rattle.texts.specs.declared.Banner as banner
 use Rattle.texts.specs.declared.Header.{Header}
 use Rattle.scanning.specs.Checks.{moved}
 use Rattle.scanning.specs.Lines.{stretch_end, line_end, line_next, size_line_at}
-use Rattle.scanning.specs.Words.{word_at, same_word, ends_at, numbers_at, is_integer}
+use Rattle.scanning.specs.Words.{word_at, same_word, ends_at, numbers_at, numbers_in, is_integer}
 
 -- text: at most this many bytes
 abbrev pub text_limit : ℕ
@@ -82,22 +81,18 @@ banner_at text end =
       symmetric = symmetric;
     }
 
--- the numbers of a line that has not its form
-abbrev pub no_numbers : Numbers
-no_numbers = record { first = 0; second = 0; third = 0 }
-
 -- the first line, and the size line of three numbers past empty lines and comments: "m n N", or for symmetric m, n and the number of entries
 unfoldable pub header_of : List ℕ → Header
 header_of text =
     let first = banner_at text (line_end text 0) in
     let at = size_line_at text (length text) (line_next text 0) in
     let sizes = numbers_at text at (line_end text at) Integer in
-    let numbers = unwrap_or sizes no_numbers in
+    let numbers = numbers_in sizes in
     record {
       fine = first.fine;
       field = first.field;
       symmetric = first.symmetric;
-      sized = is_some sizes;
+      sized = is_ok sizes;
       m = numbers.first;
       n = numbers.second;
       entries = numbers.third;

@@ -1,7 +1,7 @@
 // The first line and the size line.
 ghost use Rattle.std.specs.Prelude.{◌≡◌, true};
 ghost use Rattle.counting.specs.Tests.{pick};
-ghost use Rattle.scanning.specs.Words.{same_word};
+ghost use Rattle.scanning.specs.Words.{same_word, numbers_in};
 ghost use Rattle.texts.specs.Header.{field_at, banner_at, header_of, short, size_line_verdict, room_verdict, square_verdict, head_verdict};
 
 use crate::{Banner, Header};
@@ -60,12 +60,14 @@ fn banner_at(text: &[u8], end: usize) -> Banner
     }
 }
 
-// What stands for the numbers of a size line that has none.
-const NO_NUMBERS: Numbers = Numbers {
-    first: 0,
-    second: 0,
-    third: 0,
-};
+// The numbers of a line, whether it has its form or not.
+pub(crate) fn numbers_in(line: Result<Numbers, Numbers>) -> Numbers
+    ensures { result ≡ numbers_in line }
+{
+    match line {
+        Ok(numbers) | Err(numbers) => numbers,
+    }
+}
 
 // What stands before the entries.
 #[tactic(auto, using(scanning::proofs::Joins::joins), unfolding(crate::specs::Header::header_of))]
@@ -77,12 +79,12 @@ pub(crate) fn header_of(text: &[u8]) -> Header
     let line = size_line(text);
     let stop = line_end(text, line.at);
     let sizes = numbers_at(text, line.at, stop, Field::Integer);
-    let numbers = sizes.unwrap_or(NO_NUMBERS);
+    let numbers = numbers_in(sizes);
     Header {
         fine: banner.fine,
         field: banner.field,
         symmetric: banner.symmetric,
-        sized: sizes.is_some(),
+        sized: sizes.is_ok(),
         m: numbers.first,
         n: numbers.second,
         entries: numbers.third,

@@ -7,9 +7,10 @@ mod reading;
 mod saying;
 mod writings;
 
-use input::read_full;
+use input::read_so_far;
 use std::io;
 use testing::cases::{Cases, each_case};
+use testing::unfailing::Unfailing;
 
 // Answers a case by the first letter of its kind.
 fn answer(rt: &impl Print, kind: u8, cases: &mut Cases<'_>) -> io::Result<()> {
@@ -27,6 +28,7 @@ fn answer(rt: &impl Print, kind: u8, cases: &mut Cases<'_>) -> io::Result<()> {
 // Reads the cases and answers each of them in turn.
 fn main(rt: HostRuntime) -> io::Result<()> {
     let mut page = [0u8; 65536];
-    let len = read_full(&mut rt.reader(), &mut page)?;
-    each_case(&page, len, |kind, cases| answer(&rt, kind, cases))
+    let len = read_so_far(&mut rt.reader(), &mut page);
+    let out = Unfailing(&rt);
+    each_case(&page, len, |kind, cases| answer(&out, kind, cases))
 }

@@ -56,7 +56,7 @@ fn read_opened(rt: &impl Print, text: &[u8]) -> io::Result<()> {
 pub(crate) fn opened_case(rt: &impl Print, cases: &mut Cases<'_>) -> io::Result<()> {
     let mut page = [0u8; 16384];
     let mut last = [0u8; 16];
-    say_field(rt, cases)?;
+    say_field(rt, cases);
     let entries = cases.number();
     let start = cases.field(Kind::Text, &mut page);
     let end = cases.field(Kind::Text, &mut last);

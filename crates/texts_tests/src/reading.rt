@@ -38,7 +38,7 @@ pub(crate) fn read_within(
 // A text read into slices of given lengths.
 pub(crate) fn read_case(rt: &impl Print, cases: &mut Cases<'_>) -> io::Result<()> {
     let mut page = [0u8; 256];
-    say_field(rt, cases)?;
+    say_field(rt, cases);
     let listed = cases.number();
     let parted = cases.number();
     let len = cases.field(Kind::Text, &mut page);
@@ -48,7 +48,7 @@ pub(crate) fn read_case(rt: &impl Print, cases: &mut Cases<'_>) -> io::Result<()
 // A long text, filled with one letter between its start and its end.
 pub(crate) fn filled_case(rt: &impl Print, cases: &mut Cases<'_>) -> io::Result<()> {
     let mut fill = [0u8; 1];
-    say_field(rt, cases)?;
+    say_field(rt, cases);
     cases.field(Kind::Text, &mut fill);
     let len = cases.number() as usize;
     let mut page = [fill[0]; 65537];

@@ -19,7 +19,10 @@ pub(crate) fn say_read(rt: &impl Print, answer: Result<TextRead, Refusal>) -> io
             let field = if integer { "integer" } else { "pattern" };
             print!(rt; " {m} {n} {nonzeros} {field}")
         }
-        Err(refusal) => say_refused(rt, refusal),
+        Err(refusal) => {
+            say_refused(rt, refusal);
+            Ok(())
+        }
     }
 }
 
@@ -28,7 +31,10 @@ pub(crate) fn say_written(rt: &impl Print, answer: Result<u64, Refusal>) -> io::
     print!(rt; ":")?;
     match answer {
         Ok(len) => print!(rt; " written {len}"),
-        Err(refusal) => say_refused(rt, refusal),
+        Err(refusal) => {
+            say_refused(rt, refusal);
+            Ok(())
+        }
     }
 }
 
@@ -42,6 +48,7 @@ pub(crate) fn say_left(rt: &impl Print, words: &str, bytes: &[u8]) -> io::Result
     if is_kept(bytes) {
         print!(rt; "{words} kept")
     } else {
-        say_bytes(rt, words, bytes)
+        say_bytes(rt, words, bytes);
+        Ok(())
     }
 }

@@ -74,7 +74,7 @@ fn write_start(rt: &impl Print, split: &Split, room: usize, page: &mut [u8]) -> 
 // A split written to an output of a given length, at most 200 bytes, and which of its bytes stay.
 pub(crate) fn write_case(rt: &impl Print, cases: &mut Cases<'_>) -> io::Result<()> {
     let mut out = [9u8; 200];
-    say_field(rt, cases)?;
+    say_field(rt, cases);
     let split = Split::read(cases);
     let room = cases.number();
     write_start(rt, &split, room as usize, &mut out)?;

@@ -18,6 +18,10 @@ free_as_unmarked (suc (suc (suc x))) true false h = refl
 free_as_unmarked (suc (suc (suc x))) false true h = refl
 free_as_unmarked (suc (suc (suc x))) false false h = refl
 
+-- a number other than the three marks stands for no mark
+pub unmarked_rest : (x : ℕ) → (x ≡ 0 → ⊥) → (x ≡ 1 → ⊥) → (x ≡ 2 → ⊥) → unmarked ≤ x
+unmarked_rest x a b c = omega arith
+
 -- the condition depends on the two tests only at lines not marked 0 or 1
 pub condition_open :
     (x : ℕ) (a b a' b' : Bool) → (2 ≤ x → a ≡ a') → (2 ≤ x → b ≡ b') → condition_for x a b ≡ condition_for x a' b'

@@ -1,7 +1,7 @@
 // What a marking takes, and whether it is valid: one pass over the nonzeros.
-ghost use Rattle.std.specs.Prelude.{◌≡◌, eqb};
-ghost use Rattle.counting.specs.Tests.{◌or◌};
-ghost use Rattle.pattern.specs.Matrix.{pattern_in};
+ghost use Rattle.std.specs.Prelude.{◌≡◌, ℕ, eqb};
+ghost use Rattle.counting.specs.Tests.{◌or◌, bit};
+ghost use Rattle.model.specs.Pattern.{pattern_of};
 ghost use Rattle.weighing.specs.Cells.{marking_in};
 ghost use Rattle.weighing.specs.Taking.{TakenOf, valid_by};
 
@@ -34,9 +34,18 @@ pub fn takes_by(marks: &[u8; LINE_ROOM], row: usize, column: usize, part: u8) ->
     line_mark(marks, row) == part || line_mark(marks, column) == part
 }
 
-/// D0 and D1 of a marking, and whether some nonzero is taken by both parts.
+// One where a test passes, else none.
+#[tactic(auto, using(crate::proofs::Taken::joins))]
+fn share_of(test: bool) -> u16
+    ensures { result ≡ bit test }
+{
+    u16::from(test)
+}
+
+/// D0 and D1 of a marking, and whether some nonzero is taken by both parts, whatever the number of columns.
 pub fn taken_of(matrix: &Matrix<'_>, marks: &[u8; LINE_ROOM]) -> Taken
-    ensures { TakenOf (pattern_in matrix.now) (marking_in marks.now) result }
+    ensures { (n : ℕ) →
+        TakenOf (pattern_of matrix.now.m n matrix.now.nonzeros matrix.now.list.now) (marking_in marks.now) result }
 {
     let rows = usize::from(matrix.m);
     let mut zero = 0;
@@ -47,8 +56,8 @@ pub fn taken_of(matrix: &Matrix<'_>, marks: &[u8; LINE_ROOM]) -> Taken
         let column = rows + usize::from(matrix.column_of(t));
         let first = takes_by(marks, row, column, 0);
         let second = takes_by(marks, row, column, 1);
-        zero += u16::from(first);
-        one += u16::from(second);
+        zero += share_of(first);
+        one += share_of(second);
         both |= first && second;
     }
     Taken { zero, one, both }

@@ -1,7 +1,7 @@
 -- Lines that were written are read back: where they end, and the three numbers that they hold.
 -- Assumes nothing.
 use mathlib.Core.Bool.{Bool, true, false, not}
-use Rattle.std.specs.Prelude.{Some}
+use Rattle.std.specs.Prelude.{Some, Ok}
 use mathlib.Core.List.{List, [], ◌∷◌, ◌++◌, append_assoc}
 use mathlib.Core.Path.{◌≡◌, refl, sym, ◌∙◌, ap}
 use Prim.Native.Nat.{ℕ, ◌+◌, ◌-◌, ◌^◌, ◌≤◌, ◌<◌}
@@ -17,7 +17,7 @@ use Rattle.scanning.specs.declared.Stretch.TheVariants.{Line, Blanks, Nonblanks}
 use Rattle.scanning.specs.declared.Field.TheVariants.{Integer}
 use Rattle.scanning.specs.Classes.{between, class_of, stretches_over, is_blank}
 use Rattle.scanning.specs.Lines.{stretches_at, stretch_end, line_stop, has_return, line_end, line_next}
-use Rattle.scanning.specs.Words.{number_at, ends_at, all_three, numbers_at}
+use Rattle.scanning.specs.Words.{number_at, ends_at, numbers_at}
 use Rattle.scanning.proofs.Scans.{stretch_here, stretch_over, stretch_on, end_without, next_more}
 use Rattle.writing.specs.Written.{decimals, number_text, sizes_text}
 use Rattle.writing.proofs.Decimals.{decimals-some}
@@ -227,8 +227,8 @@ module _
 
   -- the three numbers are read back
   pub three_back :
-      numbers_at text at (line_over at a b c) Integer ≡ Some (record { first = a; second = b; third = c })
-  unfolding numbers_at all_three pick
+      numbers_at text at (line_over at a b c) Integer ≡ Ok (record { first = a; second = b; third = c })
+  unfolding numbers_at ◌and◌ pick
   three_back = rw (first-number, second-number, third-number, line_over_lem)
 
   -- and the line is not empty

@@ -1,7 +1,7 @@
 -- A written line of three numbers, the size line or an entry, is read back whole.
 -- Assumes nothing.
 use mathlib.Core.Bool.{true, false}
-use Rattle.std.specs.Prelude.{Some}
+use Rattle.std.specs.Prelude.{Ok}
 use mathlib.Core.List.{List, [], ◌∷◌, ◌++◌}
 use mathlib.Core.Path.{◌≡◌, ◌∙◌, ap}
 use Prim.Native.Nat.{ℕ, ◌+◌, ◌^◌, ◌<◌}
@@ -48,5 +48,5 @@ module _
       let same = ap (stretch_end Blanks text at) row_end ∙ filled-back text at a b c held_body sa sb sc in
       ne_eqb (stretch_end Blanks text at (line_end text at)) (line_end text at) (λ e. omega (arith, same, row_end))
 
-  pub row_numbers : numbers_at text at (line_end text at) Integer ≡ Some (record { first = a; second = b; third = c })
+  pub row_numbers : numbers_at text at (line_end text at) Integer ≡ Ok (record { first = a; second = b; third = c })
   row_numbers = ap (λ end. numbers_at text at end Integer) row_end ∙ three_back text at a b c held_body sa sb sc

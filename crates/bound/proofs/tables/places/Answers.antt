@@ -5,8 +5,7 @@ use Prim.Native.Nat.{ℕ, ◌+◌, ◌≤◌, ◌<◌}
 use native.Mathlib.Omega.{arith}
 use lib.ListN.{get_or}
 use Rattle.model.specs.Limits.{line_limit, line_room}
-use Rattle.model.specs.Pattern.{lines}
-use Rattle.pattern.specs.Matrix.{pattern_in}
+use Rattle.model.specs.Pattern.{pattern_of, lines}
 use Rattle.model.proofs.Theorems.OfList.{lines_of}
 use Rattle.pattern.proofs.Within.{within_all}
 use Rattle.marking.specs.Order.{place_in}
@@ -14,11 +13,11 @@ use Rattle.marking.proofs.Ordered.{places_are, places_past}
 use Rattle.bound.proofs.tables.places.Goals as goal
 
 pub returns : goal.returns
-returns c room counted thin =
+returns c nonzeros list room counted thin =
     let a = c.args in
     let x = a.matrix.now in
-    let P = pattern_in x in
-    let all = lines_of x.m x.n x.nonzeros x.list.now in
+    let P = pattern_of x.m x.n nonzeros list in
+    let all = lines_of x.m x.n nonzeros list in
     let few : lines P ≤ line_room = omega (arith, all) in
     let light : (i : ℕ) → i < line_room → get_or a.counts.now i 0 ≤ line_limit = λ i b. omega (arith, counted i b, thin i) in
     let each : (i : ℕ) → i < line_room → get_or c.places_of.result i 0 ≡ place_in a.counts.now (lines P) i =

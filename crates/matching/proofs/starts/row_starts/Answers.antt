@@ -57,4 +57,4 @@ returns c =
     let l = c.loop-i in
     let a = c.args in
     let P = a.matrix.now in
-    λ i h. l.invariant.2 i (omega arith) ∙ start_same P.m P.n P.nonzeros P.list.now i
+    λ m n i h. l.invariant.2 i (omega arith) ∙ start_same m n P.nonzeros P.list.now i

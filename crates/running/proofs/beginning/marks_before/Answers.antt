@@ -15,7 +15,7 @@ pub returns : goal.returns
 unfolding trail_of
 returns c = λ τ held short l b.
     let t = c.args.tables.now in
-    let x = t.matrix in
+    let x = t.crossed.matrix in
     let ready = t.made.ready in
     let e = c.drop.ensures ∙ ap dropped held ∙ dropped-earlier τ short in
     by_line

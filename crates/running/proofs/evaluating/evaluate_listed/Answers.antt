@@ -18,13 +18,13 @@ overflow_cast-matrix-3 c = omega (arith, (list_accepted _ _ _ _ c.requires).size
 
 pub evaluate_valid-requires : goal.evaluate_valid-requires
 evaluate_valid-requires c =
-    (c.requires, sym (valid-by c.args.caps c.taken_of-taken.ensures) ∙ sym c.is_valid.ensures ∙ c.if-is_valid.true)
+    (c.requires, sym (valid-by c.args.caps (c.taken_of-taken.ensures c.args.n)) ∙ sym c.is_valid.ensures ∙ c.if-is_valid.true)
 
 pub returns-then-is_valid : goal.returns-then-is_valid
-returns-then-is_valid c = λ known. c.evaluate_valid.ensures known c.taken_of-taken.ensures
+returns-then-is_valid c = λ known. c.evaluate_valid.ensures known (c.taken_of-taken.ensures c.args.n)
 
 pub returns : goal.returns
 returns c = λ known.
     let a = c.args in
     let e = c.invalid.ensures in
-    not_valid _ a.caps _ a.best _ _ c.taken_of-taken.ensures (sym c.is_valid.ensures ∙ c.if-is_valid.false) e.0 e.1 e.2 e.3
+    not_valid _ a.caps _ a.best _ _ (c.taken_of-taken.ensures c.args.n) (sym c.is_valid.ensures ∙ c.if-is_valid.false) e.0 e.1 e.2 e.3

@@ -1,5 +1,6 @@
--- `running::marks::count_all` meets its contract.
+-- `running::marks::count_all` meets its contract. That the line whose count is changed is the one that was read is an equation of its own.
 -- Assumes nothing.
+use mathlib.Core.Bool.{not}
 use mathlib.Core.Path.{◌≡◌, sym}
 use Prim.Native.Nat.{◌+◌, ◌<◌}
 use native.Mathlib.Omega.{arith}
@@ -7,7 +8,7 @@ use lib.ListN.{get_or}
 use Rattle.model.specs.Pattern.{Pattern, lines}
 use Rattle.crossing.specs.Crossing.{Laid}
 use Rattle.keeping.proofs.Standing.{Turn, turn_line, turn_few, turn_within}
-use Rattle.running.proofs.Passes.{Asked_all, asked_all, pass_begins, pass_ends, pass_asks, pass_kind, pass_more}
+use Rattle.running.proofs.Passes.{Asked_all, asked_all, asks_same, by_same, left_same, pass_begins, pass_ends, pass_asks, pass_kind, pass_more}
 use Rattle.running.proofs.marks.count_all.Goals as goal
 use Rattle.running.proofs.marks.count_all.Goals.{Start, After-from-y}
 
@@ -48,7 +49,18 @@ count_one-requires c =
     let a = c.args in
     let k = asked_here (goal.at.count_one-requires c).Start in
     let turn = at_turn (goal.at.count_one-requires c).After-from-y k.pattern k.laid k.line in
-    pass_asks _ _ _ _ _ _ _ _ _ _ _ _ _ _ turn k.part k.free a.taken (c.loop-i.invariant k.pattern k.μ k.laid k.line k.free k.stage)
+    asks_same
+    a.taken
+    _
+    _
+    _
+    _
+    _
+    a.p
+    _
+    c.from-y.result
+    (pass_asks _ _ _ _ _ _ _ _ _ _ _ _ _ _ turn k.part k.free a.taken (c.loop-i.invariant k.pattern k.μ k.laid k.line k.free k.stage))
+    (omega arith)
 
 pub bounds-by-p : goal.bounds-by-p
 bounds-by-p c =
@@ -65,11 +77,11 @@ settle_if-requires c =
       record {
         pattern = k.pattern;
         laid = k.laid;
-        tied = c.count_one.ensures.2 k.pattern (turn_few turn) (turn_line turn) stage.tied;
+        tied = c.count_one.ensures.2 k.pattern (turn_few turn) (omega (arith, turn_line turn)) stage.tied;
         kinds_long = stage.agree.kinds_long;
         line = turn_line turn;
       },
-      λ f. pass_kind _ _ _ _ _ _ _ _ _ _ _ _ _ _ turn k.part k.free a.taken _ stage c.count_one.ensures.0 (rw c.from.ensures at f),
+      λ f. pass_kind _ _ _ _ _ _ _ _ _ _ _ _ _ _ turn k.part k.free a.taken _ stage (by_same a.taken _ _ a.p _ c.from-y.result c.count_one.ensures.0 (omega arith)) (rw c.from.ensures at f),
     )
 
 pub loop-i-preserved : goal.loop-i-preserved
@@ -103,10 +115,10 @@ loop-i-preserved c P μ laid line free stage =
     _
     _
     now
-    c.count_one.ensures.0
-    c.count_one.ensures.1
+    (by_same a.taken _ _ a.p _ c.from-y.result c.count_one.ensures.0 (omega arith))
+    (left_same (not a.taken) _ _ _ c.from-y.result c.count_one.ensures.1 (omega arith))
     record { long = c.settle_if.ensures.0; kind_is = c.settle_if.ensures.1 }
-    (c.settle_if.ensures.2 P laid (turn_line turn) (c.count_one.ensures.2 P (turn_few turn) (turn_line turn) now.tied))
+    (c.settle_if.ensures.2 P laid (turn_line turn) (c.count_one.ensures.2 P (turn_few turn) (omega (arith, turn_line turn)) now.tied))
 
 pub returns : goal.returns
 returns c P μ laid line free stage =

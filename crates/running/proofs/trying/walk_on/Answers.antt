@@ -42,68 +42,68 @@ at s x k made = walk_to (rules_in s x) k made (record_of s)
 module _
     {s : Search} {t : Tables} {begun : Kept} {k budget : ℕ} (w : Walkable s t begun k budget)
     (made : ℕ) {trail : PackedTrail} {best : Trail} {count : ℕ} {found : Bool} {looks : ℕ} {kept : Kept}
-    (g : Goes (pattern_in t.matrix) (at s t.matrix k made) trail best count found looks kept) (marked : trail.len ≡ 0 → ⊥) where
+    (g : Goes (pattern_in t.crossed.matrix) (at s t.crossed.matrix k made) trail best count found looks kept) (marked : trail.len ≡ 0 → ⊥) where
   -- its trail has marks,
-  some : is_empty (at s t.matrix k made).trail ≡ false
+  some : is_empty (at s t.crossed.matrix k made).trail ≡ false
   some = sym (none_empty _ trail.len g.packs.long) ∙ ne_eqb trail.len 0 marked
 
   -- no more than there is room for,
   long : (1 ≤ trail.len) × (trail.len ≤ 600)
   long = (omega arith, omega (arith, g.packs.long, g.packs.fits))
 
-  legal : Legal (rules_in s t.matrix) (at s t.matrix k made).trail
+  legal : Legal (rules_in s t.crossed.matrix) (at s t.crossed.matrix k made).trail
   legal = (going_at w.startable made).legal
 
   -- the last on the next line in order
   next :
-      {l p : ℕ} → l ≡ get_or t.order (trail.len - 1) 0 → ((q : ℕ) (τ : List ℕ) → Packs trail (q ∷ τ) → p ≡ q) →
-      Next (pattern_in t.matrix) (caps_in s) (earlier (at s t.matrix k made).trail) l p × (p ≡ last_of (at s t.matrix k made).trail)
+      {l p : ℕ} → l ≡ get_or t.order.now (trail.len - 1) 0 → ((q : ℕ) (τ : List ℕ) → Packs trail (q ∷ τ) → p ≡ q) →
+      Next (pattern_in t.crossed.matrix) (caps_in s) (earlier (at s t.crossed.matrix k made).trail) l p × (p ≡ last_of (at s t.crossed.matrix k made).trail)
   next there says =
-      let r = at s t.matrix k made in
+      let r = at s t.crossed.matrix k made in
       let d : trail.len - 1 ≡ length (earlier r.trail) = omega (arith, g.packs.long, earlier-length r.trail) in
       let is = says (last_of r.trail) (earlier r.trail) (subst (λ (ρ : List ℕ). Packs trail ρ) (trail_split r.trail some) g.packs) in
-      let line = there ∙ ap (λ (i : ℕ). get_or t.order i 0) d ∙ t.made.tabled.ordered.line_is _ (next-room (pattern_in t.matrix) _ r.trail legal some) in
-      (next_mark_lem (pattern_in t.matrix) _ r.trail legal some _ _ line is, is)
+      let line = there ∙ ap (λ (i : ℕ). get_or t.order.now i 0) d ∙ t.made.tabled.ordered.line_is _ (next-room (pattern_in t.crossed.matrix) _ r.trail legal some) in
+      (next_mark_lem (pattern_in t.crossed.matrix) _ r.trail legal some _ _ line is, is)
 
   -- what a try with it answers
   abbrev Answers : Tried → Kept → Type 0
   Answers tried new =
-      (tried.stands ≡ stands (rules_in s t.matrix) (at s t.matrix k made))
-      × (tried.stands ≡ true → tried.least ≡ (rules_in s t.matrix).bound (at s t.matrix k made).trail)
-      × (tried.looks ≡ looks_at (rules_in s t.matrix) (at s t.matrix k made).trail)
-      × Keeps (pattern_in t.matrix) (marking (pattern_in t.matrix) (pick tried.stands (at s t.matrix k made).trail (earlier (at s t.matrix k made).trail))) new
+      (tried.stands ≡ stands (rules_in s t.crossed.matrix) (at s t.crossed.matrix k made))
+      × (tried.stands ≡ true → tried.least ≡ (rules_in s t.crossed.matrix).bound (at s t.crossed.matrix k made).trail)
+      × (tried.looks ≡ looks_at (rules_in s t.crossed.matrix) (at s t.crossed.matrix k made).trail)
+      × Keeps (pattern_in t.crossed.matrix) (marking (pattern_in t.crossed.matrix) (pick tried.stands (at s t.crossed.matrix k made).trail (earlier (at s t.crossed.matrix k made).trail))) new
 
   judged :
-      {l p : ℕ} (tried : Tried) {new : Kept} → Next (pattern_in t.matrix) (caps_in s) (earlier (at s t.matrix k made).trail) l p × (p ≡ last_of (at s t.matrix k made).trail) →
-      ((τ : List ℕ) → Next (pattern_in t.matrix) (caps_in s) τ l p → Keeps (pattern_in t.matrix) (marking (pattern_in t.matrix) τ) kept →
-      Attempted (pattern_in t.matrix) (caps_in s) τ p count tried new) → Answers tried new
+      {l p : ℕ} (tried : Tried) {new : Kept} → Next (pattern_in t.crossed.matrix) (caps_in s) (earlier (at s t.crossed.matrix k made).trail) l p × (p ≡ last_of (at s t.crossed.matrix k made).trail) →
+      ((τ : List ℕ) → Next (pattern_in t.crossed.matrix) (caps_in s) τ l p → Keeps (pattern_in t.crossed.matrix) (marking (pattern_in t.crossed.matrix) τ) kept →
+      Attempted (pattern_in t.crossed.matrix) (caps_in s) τ p count tried new) → Answers tried new
   judged tried n says =
-      let r = at s t.matrix k made in
+      let r = at s t.crossed.matrix k made in
       let e =
-      attempted_trail (pattern_in t.matrix) _ r.trail legal some
+      attempted_trail (pattern_in t.crossed.matrix) _ r.trail legal some
       (says (earlier r.trail) n.0 g.holds) n.1 in
       (stands_by _ r count e.0 g.count_is, e.1, e.2, e.3)
 
   -- the marks that are placed after it stand,
   standing :
       (tried : Tried) {new : Kept} {placed : ℕ} → Answers tried new → placed ≡ pick tried.stands trail.len (trail.len - 1) →
-      Standing (rules_in s t.matrix) (stack (mark_at (at s t.matrix k made).trail) placed)
+      Standing (rules_in s t.crossed.matrix) (stack (mark_at (at s t.crossed.matrix k made).trail) placed)
   standing tried j from =
-      let r = at s t.matrix k made in
+      let r = at s t.crossed.matrix k made in
       subst
-      (λ (i : ℕ). Standing (rules_in s t.matrix) (stack (mark_at r.trail) i))
+      (λ (i : ℕ). Standing (rules_in s t.crossed.matrix) (stack (mark_at r.trail) i))
       (sym from)
-      (placed_standing (pattern_in t.matrix) _ r.trail legal some _ trail.len g.packs.long (stands-valid _ r j.0))
+      (placed_standing (pattern_in t.crossed.matrix) _ r.trail legal some _ trail.len g.packs.long (stands-valid _ r j.0))
 
   held :
       (tried : Tried) {new : Kept} {placed : ℕ} → Answers tried new → placed ≡ pick tried.stands trail.len (trail.len - 1) →
-      Keeps (pattern_in t.matrix) (marking (pattern_in t.matrix) (stack (mark_at (at s t.matrix k made).trail) placed)) new
+      Keeps (pattern_in t.crossed.matrix) (marking (pattern_in t.crossed.matrix) (stack (mark_at (at s t.crossed.matrix k made).trail) placed)) new
   held tried {new} j from =
-      let r = at s t.matrix k made in
+      let r = at s t.crossed.matrix k made in
       subst
-      (λ (i : ℕ). Keeps (pattern_in t.matrix) (marking (pattern_in t.matrix) (stack (mark_at r.trail) i)) new)
+      (λ (i : ℕ). Keeps (pattern_in t.crossed.matrix) (marking (pattern_in t.crossed.matrix) (stack (mark_at r.trail) i)) new)
       (sym from)
-      (placed_holds (pattern_in t.matrix) _ r.trail legal some _ trail.len g.packs.long j.3)
+      (placed_holds (pattern_in t.crossed.matrix) _ r.trail legal some _ trail.len g.packs.long j.3)
 
   -- so that they can be lifted,
   liftable :
@@ -111,7 +111,7 @@ module _
   liftable tried j from =
       record {
         caps = caps_in s;
-        mark = mark_at (at s t.matrix k made).trail;
+        mark = mark_at (at s t.crossed.matrix k made).trail;
         standing = standing tried j from;
         holds = held tried j from;
       }
@@ -119,20 +119,20 @@ module _
   -- and are, down to those of the trail advanced
   lifted :
       (tried : Tried) (first : Bool) {new last : Kept} {placed to : ℕ} {ahead : PackedTrail} → Answers tried new →
-      placed ≡ pick tried.stands trail.len (trail.len - 1) → Packs ahead (advance first (at s t.matrix k made).trail) → to ≡ ahead.len - 1 →
-      ((caps : Caps) (mark : ℕ → ℕ) → Standing (rules_of (pattern_in t.matrix) caps) (stack mark placed) → to ≤ placed →
-      Keeps (pattern_in t.matrix) (marking (pattern_in t.matrix) (stack mark placed)) new → Keeps (pattern_in t.matrix) (marking (pattern_in t.matrix) (stack mark to)) last) →
-      Keeps (pattern_in t.matrix) (marking (pattern_in t.matrix) (earlier (advance first (at s t.matrix k made).trail))) last
+      placed ≡ pick tried.stands trail.len (trail.len - 1) → Packs ahead (advance first (at s t.crossed.matrix k made).trail) → to ≡ ahead.len - 1 →
+      ((caps : Caps) (mark : ℕ → ℕ) → Standing (rules_of (pattern_in t.crossed.matrix) caps) (stack mark placed) → to ≤ placed →
+      Keeps (pattern_in t.crossed.matrix) (marking (pattern_in t.crossed.matrix) (stack mark placed)) new → Keeps (pattern_in t.crossed.matrix) (marking (pattern_in t.crossed.matrix) (stack mark to)) last) →
+      Keeps (pattern_in t.crossed.matrix) (marking (pattern_in t.crossed.matrix) (earlier (advance first (at s t.crossed.matrix k made).trail))) last
   lifted tried first {to = to} j from packs down says =
-      let r = at s t.matrix k made in
+      let r = at s t.crossed.matrix k made in
       let less = down ∙ ap (λ (i : ℕ). i - 1) packs.long in
-      let fewer = subst (λ (i : ℕ). to ≤ i) (sym from) (lifted_fewer (pattern_in t.matrix) _ r.trail legal some first _ trail.len to g.packs.long less) in
-      lifted_holds (pattern_in t.matrix) _ r.trail legal some first to less
+      let fewer = subst (λ (i : ℕ). to ≤ i) (sym from) (lifted_fewer (pattern_in t.crossed.matrix) _ r.trail legal some first _ trail.len to g.packs.long less) in
+      lifted_holds (pattern_in t.crossed.matrix) _ r.trail legal some first to less
       (says (caps_in s) (mark_at r.trail) (standing tried j from) fewer (held tried j from))
 
 pub loop-trail-init : goal.loop-trail-init
 unfolding walk_to record_of
-loop-trail-init c = (omega arith, omega arith, goes_start c.requires.startable c.packed-trail.ensures c.requires.holds)
+loop-trail-init c = (omega arith, omega arith, goes_start c.requires.startable c.args.tables.now.made.ready c.packed-trail.ensures c.requires.holds)
 
 pub offset_bounds-tables-len : goal.offset_bounds-tables-len
 offset_bounds-tables-len c = let h = (long c.requires c.loop-trail.made c.loop-trail.invariant.2 c.loop-trail-test.true).1 in omega arith
@@ -146,7 +146,7 @@ try_mark-tried-requires c =
     let w = c.requires in
     let n = next w l.made l.invariant.2 c.loop-trail-test.true c.from-l.ensures c.last-p.ensures in
     record {
-      τ = earlier (at c.args.search c.args.tables.now.matrix c.args.k l.made).trail;
+      τ = earlier (at c.args.search c.args.tables.now.crossed.matrix c.args.k l.made).trail;
       next = n.0;
       holds = l.invariant.2.holds;
     }
@@ -157,7 +157,7 @@ overflow_add-looks c =
     let some = c.loop-trail-test.true in
     let n = next c.requires l.made l.invariant.2 some c.from-l.ensures c.last-p.ensures in
     let j = judged c.requires l.made l.invariant.2 some c.try_mark-tried.result n c.try_mark-tried.ensures in
-    record { fits = looks-room c.requires.startable l.made l.looks _ c.if-made-budget.true l.invariant.1 l.invariant.2.looks_is j.2 }
+    record { fits = looks-room c.requires.startable c.args.tables.now.made.ready l.made l.looks _ c.if-made-budget.true l.invariant.1 l.invariant.2.looks_is j.2 }
 
 pub lift-requires : goal.lift-requires
 lift-requires c =
@@ -180,9 +180,9 @@ loop-trail-preserved c =
     let w = c.requires in
     let goes = l.invariant.2 in
     let begun = c.loop-trail-test.true in
-    let P = pattern_in c.args.tables.now.matrix in
-    let R = rules_in c.args.search c.args.tables.now.matrix in
-    let r = at c.args.search c.args.tables.now.matrix c.args.k l.made in
+    let P = pattern_in c.args.tables.now.crossed.matrix in
+    let R = rules_in c.args.search c.args.tables.now.crossed.matrix in
+    let r = at c.args.search c.args.tables.now.crossed.matrix c.args.k l.made in
     let n = next w l.made goes begun c.from-l.ensures c.last-p.ensures in
     let j = judged w l.made goes begun c.try_mark-tried.result n c.try_mark-tried.ensures in
     let looked = ap (λ (x : ℕ). l.looks + x) j.2 in

@@ -22,5 +22,5 @@ returns c =
     c.cleared.ensures
     c.lines.ensures
     c.marks_by_line-by_line.ensures
-    c.taken_of.ensures
+    (c.taken_of.ensures a.matrix.now.n)
     c.is_valid.ensures

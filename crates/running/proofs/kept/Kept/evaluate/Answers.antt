@@ -12,21 +12,21 @@ pub overflow_add-struck : goal.overflow_add-struck
 overflow_add-struck c =
     let q = c.requires in
     let top = c.from-top in
-    let few = both_few c.args.tables.now.made.tabled.laid q.holds q.topped _ top.result _ _ (omega arith) c.strike_part-zero.ensures c.strike_part-one.ensures in
+    let few = both_few c.args.crossed.now.made.laid q.holds q.topped _ top.result _ _ (omega arith) c.strike_part-zero.ensures c.strike_part-one.ensures in
     omega arith
 
 pub returns : goal.returns
 returns c =
     let a = c.args in
-    let t = a.tables.now in
+    let t = a.crossed.now in
     let x = t.matrix in
-    let listed = t.made.ready.listed in
-    let laid = t.made.tabled.laid in
+    let listed = t.made.listed in
+    let laid = t.made.laid in
     let top = c.from-top in
     λ μ h v takes.
     let topped = listed_topped μ listed in
     let judged = c.judge-judged.ensures μ h v topped in
-    let found = matched_are x.m x.n x.nonzeros x.list.now t.rows μ a.self.now.kinds listed (kinds_lean h) _ c.matched_of-matching.result (conflicts_kept h laid.inside) c.matched_of-matching.ensures.0 in
+    let found = matched_are x.m x.n x.nonzeros x.list.now t.rows.now μ a.self.now.kinds listed (kinds_lean h) _ c.matched_of-matching.result (conflicts_kept h laid.inside) c.matched_of-matching.ensures.0 in
     record {
       valid_is = sym v;
       zero_is = takes.zero_is;

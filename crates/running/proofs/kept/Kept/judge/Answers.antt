@@ -11,9 +11,9 @@ use Rattle.running.proofs.kept.Kept.judge.Goals as goal
 pub returns : goal.returns
 returns c =
     let a = c.args in
-    let t = a.tables.now in
+    let t = a.crossed.now in
     let x = t.matrix in
-    let listed = t.made.ready.listed in
+    let listed = t.made.listed in
     let top = c.from.result in
     let matching = c.matched_of-matching.result in
     λ μ h v topped.
@@ -23,7 +23,7 @@ returns c =
     x.n
     x.nonzeros
     x.list.now
-    t.rows
+    t.rows.now
     μ
     a.self.now.kinds
     listed

@@ -27,7 +27,7 @@ pop-requires c =
     let l = c.loop-at in
     let q = c.requires in
     let t = c.args.tables.now in
-    let P = pattern_in t.matrix in
+    let P = pattern_in t.crossed.matrix in
     let laid = t.made.tabled.laid in
     let d = l.at - 1 in
     let e : l.at ≡ d + 1 = omega arith in
@@ -50,7 +50,7 @@ pub loop-at-preserved : goal.loop-at-preserved
 loop-at-preserved c =
     let l = c.loop-at in
     let t = c.args.tables.now in
-    let P = pattern_in t.matrix in
+    let P = pattern_in t.crossed.matrix in
     let laid = t.made.tabled.laid in
     let d = l.at - 1 in
     let e : l.at ≡ d + 1 = omega arith in (
@@ -72,7 +72,7 @@ loop-at-preserved c =
 pub returns : goal.returns
 returns c =
     λ caps mark standing fewer h.
-    let P = pattern_in c.args.tables.now.matrix in
+    let P = pattern_in c.args.tables.now.crossed.matrix in
     let l = c.loop-at in
     let e : l.at ≡ c.args.to = omega (arith, l.invariant.0 fewer) in
     subst

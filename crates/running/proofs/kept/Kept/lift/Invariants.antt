@@ -12,5 +12,5 @@ use Rattle.running.proofs.kept.Kept.lift.Given as goal
 
 abbrev pub invariant-loop-at : goal.invariant-loop-at
 invariant-loop-at l = (l.to ≤ l.from → l.to ≤ l.at)
-    × ((caps : Caps) (mark : ℕ → ℕ) → Standing (rules_of (pattern_in l.tables.matrix) caps) (stack mark l.from) →
-    Keeps (pattern_in l.tables.matrix) (marking (pattern_in l.tables.matrix) (stack mark l.from)) l.initial.self → Keeps (pattern_in l.tables.matrix) (marking (pattern_in l.tables.matrix) (stack mark l.at)) l.self)
+    × ((caps : Caps) (mark : ℕ → ℕ) → Standing (rules_of (pattern_in l.tables.crossed.matrix) caps) (stack mark l.from) →
+    Keeps (pattern_in l.tables.crossed.matrix) (marking (pattern_in l.tables.crossed.matrix) (stack mark l.from)) l.initial.self → Keeps (pattern_in l.tables.crossed.matrix) (marking (pattern_in l.tables.crossed.matrix) (stack mark l.at)) l.self)

@@ -11,8 +11,8 @@ use Rattle.running.proofs.kept.Kept.none.Goals as goal
 
 pub returns : goal.returns
 returns c =
-    let t = c.args.tables.now in
-    let tables = t.made.tabled in
+    let t = c.args.crossed.now in
+    let tables = t.made in
     let laid = tables.laid in
     let few : lines (pattern_in t.matrix) ≤ line_room = omega (arith, laid.few) in
     holds-none laid.inside few laid.thin

@@ -10,16 +10,16 @@ use Rattle.running.proofs.Evaluated.{given_at_lem}
 use Rattle.running.proofs.kept.Kept.place_all.Goals as goal
 
 pub loop-l-init : goal.loop-l-init
-loop-l-init c = λ caps every fits h. holds-first c.args.tables.now.made.tabled.laid.inside (marking_in c.args.given.now) h
+loop-l-init c = λ caps every fits h. holds-first c.args.crossed.now.made.laid.inside (marking_in c.args.given.now) h
 
 pub bounds-given-l : goal.bounds-given-l
-bounds-given-l c = omega (arith, c.requires.every, c.args.tables.now.made.tabled.laid.few)
+bounds-given-l c = omega (arith, c.requires.every, c.args.crossed.now.made.laid.few)
 
 pub place_if-requires : goal.place_if-requires
 place_if-requires c =
     let l = c.loop-l in
     let q = c.requires in
-    let laid = c.args.tables.now.made.tabled.laid in
+    let laid = c.args.crossed.now.made.laid in
     let μ = marking_in c.args.given.now in
     let few : l.l < 1024 = omega (arith, q.every, laid.few) in
     record {
@@ -31,9 +31,9 @@ place_if-requires c =
 pub loop-l-preserved : goal.loop-l-preserved
 loop-l-preserved c =
     let l = c.loop-l in
-    let laid = c.args.tables.now.made.tabled.laid in
+    let laid = c.args.crossed.now.made.laid in
     let μ = marking_in c.args.given.now in
-    let few : l.l < 1024 = omega (arith, c.requires.every, c.args.tables.now.made.tabled.laid.few) in
+    let few : l.l < 1024 = omega (arith, c.requires.every, c.args.crossed.now.made.laid.few) in
     let marked = given_at_lem c.args.given.now l.l few in
     λ caps every fits none.
     holds-next laid.inside μ l.l _ marked
@@ -42,7 +42,7 @@ loop-l-preserved c =
 pub returns : goal.returns
 returns c =
     λ caps every fits h.
-    let P = pattern_in c.args.tables.now.matrix in
+    let P = pattern_in c.args.crossed.now.matrix in
     let l = c.loop-l in
     let e : l.l ≡ c.args.end = omega arith in
     subst

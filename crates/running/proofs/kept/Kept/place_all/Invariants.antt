@@ -13,5 +13,5 @@ use Rattle.running.specs.Laying.{first_marks}
 use Rattle.running.proofs.kept.Kept.place_all.Given as goal
 
 abbrev pub invariant-loop-l : goal.invariant-loop-l
-invariant-loop-l l = (caps : Caps) → l.end ≡ lines (pattern_in l.tables.matrix) → valid (pattern_in l.tables.matrix) caps (marking_in l.given) ≡ true →
-    Keeps (pattern_in l.tables.matrix) (marking (pattern_in l.tables.matrix) []) l.initial.self → Keeps (pattern_in l.tables.matrix) (first_marks (marking_in l.given) l.l) l.self
+invariant-loop-l l = (caps : Caps) → l.end ≡ lines (pattern_in l.crossed.matrix) → valid (pattern_in l.crossed.matrix) caps (marking_in l.given) ≡ true →
+    Keeps (pattern_in l.crossed.matrix) (marking (pattern_in l.crossed.matrix) []) l.initial.self → Keeps (pattern_in l.crossed.matrix) (first_marks (marking_in l.given) l.l) l.self

@@ -50,7 +50,7 @@ mark-is-at-1 c P μ p place holds = c.from-mark.ensures ∙ mark_read place hold
 -- a part has taken the nonzeros of the line
 ready : (c : MarkRead) →
     let a = c.args in
-    (P : Pattern) (μ : Marking) (p : ℕ) → Laid P a.tables.now.starts a.tables.now.cross → Placeable P μ a.l p →
+    (P : Pattern) (μ : Marking) (p : ℕ) → Laid P a.crossed.now.starts.now a.crossed.now.cross.now → Placeable P μ a.l p →
     HeldWith c P μ p → c.from-mark.result < 2 →
     Stage P μ c.from-mark.result (meets P a.l) a.self.now.marks a.self.now.by a.self.now.left a.self.now.kinds a.self.now.tally a.self.now.sums
 ready c P μ p laid place holds b =
@@ -65,7 +65,7 @@ ready c P μ p laid place holds b =
     e
     holds.stage
 
-ready-at-1 : (c : Joined-mark-lt2) → let a = c.args in (P : Pattern) (μ : Marking) (p : ℕ) → Laid P a.tables.now.starts a.tables.now.cross → Placeable P μ a.l p → HeldWith-at-1 c P μ p → c.from-mark.result < 2 → Stage P μ c.from-mark.result (meets P a.l) a.self.now.marks a.self.now.by a.self.now.left a.self.now.kinds a.self.now.tally a.self.now.sums
+ready-at-1 : (c : Joined-mark-lt2) → let a = c.args in (P : Pattern) (μ : Marking) (p : ℕ) → Laid P a.crossed.now.starts.now a.crossed.now.cross.now → Placeable P μ a.l p → HeldWith-at-1 c P μ p → c.from-mark.result < 2 → Stage P μ c.from-mark.result (meets P a.l) a.self.now.marks a.self.now.by a.self.now.left a.self.now.kinds a.self.now.tally a.self.now.sums
 ready-at-1 c P μ p laid place holds b =
     let a = c.args in
     let e = mark-is-at-1 c P μ p place holds in
@@ -82,7 +82,7 @@ ready-at-1 c P μ p laid place holds b =
 lifted : (c : ArmsJoined) →
     let a = c.args in
     let k = c.if-mark-lt2 in
-    (P : Pattern) (μ : Marking) (p : ℕ) → Laid P a.tables.now.starts a.tables.now.cross → Placeable P μ a.l p →
+    (P : Pattern) (μ : Marking) (p : ℕ) → Laid P a.crossed.now.starts.now a.crossed.now.cross.now → Placeable P μ a.l p →
     HeldWith-at-1 c P μ p →
     Stage P μ 0 none a.self.now.marks k.by k.left k.kinds k.tally k.sums × (k.gain ≡ gain P μ a.l p)
 lifted c P μ p laid place holds =
@@ -150,8 +150,8 @@ pub returns : goal.returns
 returns c =
     λ μ p place holds.
     let a = c.args in
-    let P = pattern_in a.tables.now.matrix in
-    let laid = a.tables.now.made.tabled.laid in
+    let P = pattern_in a.crossed.now.matrix in
+    let laid = a.crossed.now.made.laid in
     let j = (goal.at.returns c).Joined-mark-lt2 in
     let few : lines P ≤ line_room = omega (arith, laid.few) in
     let left = lifted j P μ p laid place holds in

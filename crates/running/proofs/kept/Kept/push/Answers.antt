@@ -24,7 +24,7 @@ LineSettled =
 -- the arrays at that place
 settled : (c : LineSettled) →
     let a = c.args in
-    (P : Pattern) (μ : Marking) (q : ℕ) → Laid P a.tables.now.starts a.tables.now.cross → Placeable P μ a.l a.p →
+    (P : Pattern) (μ : Marking) (q : ℕ) → Laid P a.crossed.now.starts.now a.crossed.now.cross.now → Placeable P μ a.l a.p →
     Holds P μ a.self.now.marks a.self.now.by a.self.now.left a.self.now.kinds a.self.now.tally a.self.now.sums a.self.now.loads →
     Stage P μ q none (set a.self.now.marks a.l a.p) a.self.now.by a.self.now.left c.settle.new.kinds c.settle.new.tally c.settle.new.sums
 settled c P μ q laid place holds =
@@ -68,8 +68,8 @@ overflow_add-loads-else-mark-lt2 c =
 pub returns-then-mark-lt2 : goal.returns-then-mark-lt2
 returns-then-mark-lt2 c =
     λ μ place holds.
-    let P = pattern_in c.args.tables.now.matrix in
-    let laid = c.args.tables.now.made.tabled.laid in
+    let P = pattern_in c.args.crossed.now.matrix in
+    let laid = c.args.crossed.now.made.laid in
     let part : c.args.p < 2 = omega (arith, c.if-mark-lt2.true, c.from-mark.ensures) in
     holds_pushed
     (omega (arith, laid.few))
@@ -91,8 +91,8 @@ returns-then-mark-lt2 c =
 pub returns-else-mark-lt2 : goal.returns-else-mark-lt2
 returns-else-mark-lt2 c =
     λ μ place holds.
-    let P = pattern_in c.args.tables.now.matrix in
-    let laid = c.args.tables.now.made.tabled.laid in
+    let P = pattern_in c.args.crossed.now.matrix in
+    let laid = c.args.crossed.now.made.laid in
     let cut : 2 ≤ c.args.p = omega (arith, c.if-mark-lt2.false, c.from-mark.ensures) in
     holds_pushed
     (omega (arith, laid.few))

@@ -5,8 +5,8 @@ use Rattle.std.proofs.lemmas.Slice.{take-put_mid_below}
 use Rattle.std.specs.Io.KnownBytes.{Consumes}
 use Rattle.std.proofs.KnownBytes.{Consumes-trans, Consumes-kept}
 use borrow.Rule.Slice.PartMut.{post_of}
-use Rattle.input.proofs.read_full.Goals as goal
-use Rattle.input.proofs.read_full.Goals.{in-Ok, in-Err+else-ne}
+use Rattle.input.proofs.fill.Goals as goal
+use Rattle.input.proofs.fill.Goals.{in-Ok, in-Err+else-ne}
 
 -- what was there before a place, and then the first of the bytes put there
 filled : (front ys rest : List ℕ) (a n : ℕ) → length front ≡ a → n ≤ length ys → front ++ take n ys ≡ take (a + n) (front ++ (ys ++ rest))
