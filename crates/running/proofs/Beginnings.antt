@@ -44,7 +44,6 @@ use Rattle.keeping.proofs.Holding.{holds_eq}
 use Rattle.state.proofs.Accepting.{accepted_ready}
 use Rattle.running.specs.declared.kept.Kept.{Kept}
 use Rattle.running.specs.declared.tables.Crossed.{Crossed}
-use Rattle.running.specs.declared.tables.Ranked.{Ranked}
 use Rattle.running.specs.declared.tables.Tables.{Tables}
 use Rattle.running.specs.Arrays.{Zeros, Neutral}
 use Rattle.running.specs.Tabled.{CountedOf, RankedOf, CrossedOf, TablesOf}
@@ -160,35 +159,29 @@ crossed_made x {counts = counts} total c all laid crossed =
     }
 
 -- what is counted of a pattern whose lines are ranked
-pub ranked_counted : (r : Ranked) → CountedOf r.matrix r.rows r.counts
-ranked_counted r =
-    record {
-      listed = r.made.ready.listed;
-      counts_long = r.made.counts_long;
-      counts_are = r.made.counts_are;
-    }
+pub ranked_counted : {x : Matrix} {rows counts places : List ℕ} {full : ℕ} → RankedOf x rows counts places full → CountedOf x rows counts
+ranked_counted r = record { listed = r.ready.listed; counts_long = r.counts_long; counts_are = r.counts_are }
 
 -- its lines in order,
 pub order_made :
-    (r : Ranked) {order : List ℕ} (total : ℕ) → total ≡ within (r.matrix.m + r.matrix.n) → OrderOf total r.places order →
-    Ordered (pattern_in r.matrix) order
-order_made r total all ordered =
-    let listed = r.made.ready.listed in
-    let every = list-lines r.matrix.m r.matrix.n r.matrix.nonzeros r.matrix.list.now listed.rows_small listed.columns_small ∙ sym all in
-    ordered (pattern_in r.matrix) (listed_limited listed) every r.made.ready.placed.placed
+    {x : Matrix} {rows counts places order : List ℕ} {full : ℕ} (total : ℕ) → RankedOf x rows counts places full → total ≡ within (x.m + x.n) →
+    OrderOf total places order → Ordered (pattern_in x) order
+order_made {x} total r all ordered =
+    let listed = r.ready.listed in
+    let every = list-lines x.m x.n x.nonzeros x.list.now listed.rows_small listed.columns_small ∙ sym all in
+    ordered (pattern_in x) (listed_limited listed) every r.ready.placed.placed
 
 -- and such a pattern with its crossing lines and its lines in order,
 pub tables_ordered :
-    (r : Ranked) {x : Matrix} {rows counts starts cross order : List ℕ} → x ≡ r.matrix → CrossedOf x rows counts starts cross →
-    Ordered (pattern_in r.matrix) order →
-    TablesOf x rows counts r.places starts cross order r.full
-tables_ordered r {order = order} same c ordered =
+    {x y : Matrix} {rows' counts' places rows counts starts cross order : List ℕ} {full : ℕ} → RankedOf y rows' counts' places full → x ≡ y →
+    CrossedOf x rows counts starts cross → Ordered (pattern_in y) order → TablesOf x rows counts places starts cross order full
+tables_ordered {places = places} {order = order} {full = full} r same c ordered =
     record {
       ready = record {
         listed = c.listed;
-        placed = subst (λ (y : Matrix). Placed (pattern_in y) r.places) (sym same) r.made.ready.placed;
-        total = subst (λ (y : Matrix). r.full ≡ line_total (pattern_in y)) (sym same) r.made.ready.total;
-        few = r.made.ready.few;
+        placed = subst (λ (y : Matrix). Placed (pattern_in y) places) (sym same) r.ready.placed;
+        total = subst (λ (y : Matrix). full ≡ line_total (pattern_in y)) (sym same) r.ready.total;
+        few = r.ready.few;
       };
       tabled = record {
         laid = c.laid;
@@ -198,14 +191,20 @@ tables_ordered r {order = order} same c ordered =
       };
     }
 
--- from its arrays as they are made
+-- the tables of an accepted list, as they are made
 pub tables_made :
-    (r : Ranked) (starts cross order : List ℕ) (total : ℕ) → total ≡ within (r.matrix.m + r.matrix.n) →
-    (length starts ≡ line_room) × StartsOf total r.counts starts → LaidFrom (pattern_in r.matrix) starts cross →
-    OrderOf total r.places order →
-    TablesOf r.matrix r.rows r.counts r.places starts cross order r.full
-tables_made r starts cross order total all laid crossed ordered =
-    tables_ordered r refl (crossed_made r.matrix total (ranked_counted r) all laid crossed) (order_made r total all ordered)
+    (x : Matrix) (rows counts places starts cross order : List ℕ) (full total : ℕ) →
+    list_verdict x.m x.n x.nonzeros x.list.now ≡ accepted → total ≡ within (x.m + x.n) →
+    ((i : ℕ) → i ≤ side_room → get_or rows i 0 ≡ row_start (pattern_in x) i) →
+    (length counts ≡ line_room) × ((l : ℕ) → l < line_room → get_or counts l 0 ≡ line_count (pattern_in x) l) →
+    (x.m + x.n ≤ line_room → ((l : ℕ) → l < line_room → get_or counts l 0 ≡ line_count (pattern_in x) l) →
+    ((l : ℕ) → line_count (pattern_in x) l ≤ line_limit) → Placed (pattern_in x) places) →
+    (length starts ≡ line_room) × StartsOf total counts starts → LaidFrom (pattern_in x) starts cross → OrderOf total places order →
+    full ≡ total_by counts total →
+    TablesOf x rows counts places starts cross order full
+tables_made x rows counts places starts cross order full total opens all started counted placed laid crossed ordered filled =
+    let ranked = ranked_made x rows counts places full total opens all started counted placed filled in
+    tables_ordered ranked refl (crossed_made x total (ranked_counted ranked) all laid crossed) (order_made total ranked all ordered)
 
 -- each of so many lines is one of the pattern
 pub every_line : (t : Crossed) (total end : ℕ) → total ≡ within (t.matrix.m + t.matrix.n) → end ≡ total → end ≡ lines (pattern_in t.matrix)

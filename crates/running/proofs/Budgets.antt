@@ -23,9 +23,8 @@ use Rattle.model.specs.Calls.{ended, ran_record, ran_after}
 use Rattle.model.proofs.Theorems.Checks.{refuse-not, refuse_so, refuse_no, refuse_either, then_accepted, then_refused, then_assoc}
 use Rattle.pattern.specs.declared.matrix.Matrix.{Matrix}
 use Rattle.pattern.specs.Matrix.{pattern_in}
-use Rattle.running.specs.declared.tables.Ranked.{Ranked}
 use Rattle.state.specs.Holding.{normal_of}
-use Rattle.state.specs.Ready.{Ready, Fits}
+use Rattle.state.specs.Ready.{ReadyIn, Fits}
 use Rattle.state.proofs.Accepting.{fine_normal, fits_back, ready_fits, fine_looked}
 use Rattle.model.proofs.Walk.Legal.{Legal, legal_empty}
 use Rattle.model.proofs.Order.RulesSound.{rules_sound}
@@ -134,112 +133,108 @@ fine_tries R m n nonzeros r h =
 abbrev pub fine_in : Search → Matrix → Bool
 fine_in s x = state_fine (rules_in s x) x.m x.n x.nonzeros (record_of s)
 
-module _ (ranked : Ranked) (s from : Search) (t : Tryable ranked.matrix s) (f : from ≡ normal_of s) where
-  abbrev x : Matrix
-  x = ranked.matrix
+module _
+    {x : Matrix} {places rows : List ℕ} {full : ℕ} (ready : ReadyIn x places rows full) (s from : Search) (t : Tryable x s) (f : from ≡ normal_of s)
+  where
+    fits : Fits full (record_of s)
+    fits = ready_fits x.m x.n x.nonzeros x.list.now places rows full s ready t.fine
 
-  abbrev ready : Ready x.m x.n x.nonzeros x.list.now ranked.places ranked.rows ranked.full
-  ready = ranked.made.ready
+    -- a cleared search is that of its record
+    is_record : from ≡ search_of (record_of s)
+    is_record = f ∙ fine_normal s full ready.few fits
 
-  fits : Fits ranked.full (record_of s)
-  fits = ready_fits x.m x.n x.nonzeros x.list.now ranked.places ranked.rows ranked.full s ready t.fine
+    pub same_record : record_of from ≡ record_of s
+    same_record = ap record_of is_record ∙ fits_back full (record_of s) ready.few fits
 
-  -- a cleared search is that of its record
-  is_record : from ≡ search_of (record_of s)
-  is_record = f ∙ fine_normal s ranked.full ready.few fits
+    pub same_rules : rules_in from x ≡ rules_in s x
+    same_rules = ap (rules_of (pattern_in x)) (normal_caps s from f)
 
-  pub same_record : record_of from ≡ record_of s
-  same_record = ap record_of is_record ∙ fits_back ranked.full (record_of s) ready.few fits
+    fine_trail : Going (rules_in from x) (record_of from)
+    fine_trail =
+        subst
+        (λ (R : Rules). Going R (record_of from))
+        (sym same_rules)
+        (subst (λ (r : Record). Going (rules_in s x) r) (sym same_record) (fine_going _ x.m x.n x.nonzeros (record_of s) t.fine))
 
-  pub same_rules : rules_in from x ≡ rules_in s x
-  same_rules = ap (rules_of (pattern_in x)) (normal_caps s from f)
+    from-looked : from.looks ≤ from.tries * (x.m * x.nonzeros)
+    unfolding normal_of record_of
+    from-looked = subst (λ (q : Search). q.looks ≤ q.tries * (x.m * x.nonzeros)) (sym f) (fine_looked _ x.m x.n x.nonzeros (record_of s) t.fine).few
 
-  fine_trail : Going (rules_in from x) (record_of from)
-  fine_trail =
-      subst
-      (λ (R : Rules). Going R (record_of from))
-      (sym same_rules)
-      (subst (λ (r : Record). Going (rules_in s x) r) (sym same_record) (fine_going _ x.m x.n x.nonzeros (record_of s) t.fine))
+    -- and tries can be made on it
+    pub from_readied :
+        (k budget : ℕ) → k ≤ full → s.tries + budget ≤ tries_limit + budget_limit →
+        Startable from x k budget
+    unfolding record_of
+    from_readied k budget few room =
+        record {
+          room = omega (arith, room, normal_tries s from f);
+          held = is_record ∙ ap search_of (sym same_record);
+          within = omega (arith, ready.total);
+          legal = fine_trail.legal;
+          ended = fine_trail.ended;
+          looked = from-looked;
+        }
 
-  from-looked : from.looks ≤ from.tries * (x.m * x.nonzeros)
-  unfolding normal_of record_of
-  from-looked = subst (λ (q : Search). q.looks ≤ q.tries * (x.m * x.nonzeros)) (sym f) (fine_looked _ x.m x.n x.nonzeros (record_of s) t.fine).few
+    -- with k marks for a full trail they are the walk's
+    walk-taken :
+        (budget : ℕ) → walk_to (rules_in from x) full budget (record_of from) ≡ walk (rules_of (pattern_in x) (record_of s).caps) budget (record_of s)
+    walk-taken budget =
+        let P = pattern_in x in
+        let R = rules_in s x in
+        ap (λ (Q : Rules). walk_to Q full budget (record_of from)) same_rules
+        ∙ ap (walk_to R full budget) same_record
+        ∙ ap (λ (k : ℕ). walk_to R k budget (record_of s)) (ready.total ∙ sym (rules_k P (caps_in s)))
+        ∙ walk_exact (rules_sound P (caps_in s) ready.listed.inside) budget (record_of s) (fine_going _ x.m x.n x.nonzeros (record_of s) t.fine)
+        ∙ ap (λ (c : Caps). walk (rules_of P c) budget (record_of s)) (sym (record_caps s))
 
-  -- and tries can be made on it
-  pub from_readied :
-      (full budget : ℕ) → full ≤ ranked.full → s.tries + budget ≤ tries_limit + budget_limit →
-      Startable from ranked.matrix full budget
-  unfolding record_of
-  from_readied full budget most room =
-      record {
-        room = omega (arith, room, normal_tries s from f);
-        held = is_record ∙ ap search_of (sym same_record);
-        within = omega (arith, ready.total);
-        legal = fine_trail.legal;
-        ended = fine_trail.ended;
-        looked = from-looked;
-      }
+    -- the search after an accepted run
+    pub run_walked :
+        (budget : ℕ) (after : Search) → after ≡ search_of (walk_to (rules_in from x) full budget (record_of from)) →
+        after ≡ search_of (ran_record (record_of s) (pattern_in x) budget)
+    unfolding ran_record
+    run_walked budget after walks = walks ∙ ap search_of (walk-taken budget)
 
-  -- with k marks for a full trail they are the walk's
-  walk-taken :
-      (budget : ℕ) → walk_to (rules_in from x) ranked.full budget (record_of from) ≡ walk (rules_of (pattern_in x) (record_of s).caps) budget (record_of s)
-  walk-taken budget =
-      let P = pattern_in x in
-      let R = rules_in s x in
-      ap (λ (Q : Rules). walk_to Q ranked.full budget (record_of from)) same_rules
-      ∙ ap (walk_to R ranked.full budget) same_record
-      ∙ ap (λ (k : ℕ). walk_to R k budget (record_of s)) (ready.total ∙ sym (rules_k P (caps_in s)))
-      ∙ walk_exact (rules_sound P (caps_in s) ready.listed.inside) budget (record_of s) (fine_going _ x.m x.n x.nonzeros (record_of s) t.fine)
-      ∙ ap (λ (c : Caps). walk (rules_of P c) budget (record_of s)) (sym (record_caps s))
+    -- an accepted run
+    pub run_taken :
+        (budget : ℕ) (after : Search) (answer : Ended) (v : Verdict) → v ≡ budget_by s.tries budget → v ≡ accepted →
+        after ≡ search_of (walk_to (rules_in from x) full budget (record_of from)) →
+        answer ≡ ended after.complete after.looks →
+        record { answer = Ok answer; search = after } ≡ ran_after (budget_by s.tries budget) s (pattern_in x) budget
+    unfolding ran_after search_of
+    run_taken budget after answer v e a walks d =
+        ap (λ (q : Ended). record { answer = Ok q; search = after }) d
+        ∙ ap (λ (q : Search). record { answer = Ok (ended q.complete q.looks); search = q }) (run_walked budget after walks)
+        ∙ ap (λ (q : Verdict). ran_after q s (pattern_in x) budget) (sym a ∙ e)
 
-  -- the search after an accepted run
-  pub run_walked :
-      (budget : ℕ) (after : Search) → after ≡ search_of (walk_to (rules_in from x) ranked.full budget (record_of from)) →
-      after ≡ search_of (ran_record (record_of s) (pattern_in x) budget)
-  unfolding ran_record
-  run_walked budget after walks = walks ∙ ap search_of (walk-taken budget)
+    -- the trail of the search has at most k marks
+    pub from-short : from.trail.len ≤ full
+    unfolding record_of marks_in
+    from-short =
+        omega (
+          arith,
+          stack-length (λ i. get_or from.trail.marks i 0) from.trail.len,
+          ap (λ (r : Record). length r.trail) same_record,
+          fits.trail_fits,
+        )
 
-  -- an accepted run
-  pub run_taken :
-      (budget : ℕ) (after : Search) (answer : Ended) (v : Verdict) → v ≡ budget_by s.tries budget → v ≡ accepted →
-      after ≡ search_of (walk_to (rules_in from x) ranked.full budget (record_of from)) →
-      answer ≡ ended after.complete after.looks →
-      record { answer = Ok answer; search = after } ≡ ran_after (budget_by s.tries budget) s (pattern_in x) budget
-  unfolding ran_after search_of
-  run_taken budget after answer v e a walks d =
-      ap (λ (q : Ended). record { answer = Ok q; search = after }) d
-      ∙ ap (λ (q : Search). record { answer = Ok (ended q.complete q.looks); search = q }) (run_walked budget after walks)
-      ∙ ap (λ (q : Verdict). ran_after q s (pattern_in x) budget) (sym a ∙ e)
+    -- with none for a full trail, and tries enough for every open marking, they find its floor
+    pub floor_readied : (budget : ℕ) → budget ≤ budget_limit → Startable from x 0 budget
+    unfolding record_of
+    floor_readied budget b =
+        from_readied 0 budget (omega arith) (omega (arith, fine_tries _ x.m x.n x.nonzeros (record_of s) t.fine))
 
-  -- the trail of the search has at most k marks
-  pub from-short : from.trail.len ≤ ranked.full
-  unfolding record_of marks_in
-  from-short =
-      omega (
-        arith,
-        stack-length (λ i. get_or from.trail.marks i 0) from.trail.len,
-        ap (λ (r : Record). length r.trail) same_record,
-        fits.trail_fits,
-      )
-
-  -- with none for a full trail, and tries enough for every open marking, they find its floor
-  pub floor_readied : (budget : ℕ) → budget ≤ budget_limit → Startable from ranked.matrix 0 budget
-  unfolding record_of
-  floor_readied budget b =
-      from_readied 0 budget (omega arith) (omega (arith, fine_tries _ x.m x.n x.nonzeros (record_of s) t.fine))
-
-  pub floor-taken :
-      (budget : ℕ) → 2 * from.trail.len + 1 ≤ budget → (after : Search) →
-      after ≡ search_of (walk_to (rules_in from x) 0 budget (record_of from)) →
-      after.best_count ≡ floor (rules_in s x) (record_of s)
-  unfolding search_of record_of marks_in
-  floor-taken budget enough after e =
-      ap (λ (q : Search). q.best_count) e
-      ∙ floor-found
-      (rules_in from x)
-      budget
-      (record_of from)
-      fine_trail
-      (omega (arith, stack-length (λ i. get_or from.trail.marks i 0) from.trail.len))
-      ∙ ap (λ (R : Rules). floor R (record_of from)) same_rules
-      ∙ ap (floor (rules_in s x)) same_record
+    pub floor-taken :
+        (budget : ℕ) → 2 * from.trail.len + 1 ≤ budget → (after : Search) →
+        after ≡ search_of (walk_to (rules_in from x) 0 budget (record_of from)) →
+        after.best_count ≡ floor (rules_in s x) (record_of s)
+    unfolding search_of record_of marks_in
+    floor-taken budget enough after e =
+        ap (λ (q : Search). q.best_count) e
+        ∙ floor-found
+        (rules_in from x)
+        budget
+        (record_of from)
+        fine_trail
+        (omega (arith, stack-length (λ i. get_or from.trail.marks i 0) from.trail.len))
+        ∙ ap (λ (R : Rules). floor R (record_of from)) same_rules
+        ∙ ap (floor (rules_in s x)) same_record

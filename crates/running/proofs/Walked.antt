@@ -18,7 +18,7 @@ use Rattle.trail.specs.declared.Trail.{Trail}
 use Rattle.model.specs.declared.Caps.{Caps}
 use Rattle.model.specs.declared.Search.{Search}
 use Rattle.model.specs.Limits.{budget_limit, tries_limit}
-use Rattle.model.specs.Pattern.{pattern_of}
+use Rattle.model.specs.Pattern.{pattern_of, line_total}
 use Rattle.model.specs.Marking.{marking}
 use Rattle.model.specs.Walk.{Record, Rules, is_empty, tried, looks_at, stands}
 use Rattle.model.specs.State.{are_marks, trail_of, caps_in, record_of, search_of}
@@ -31,7 +31,7 @@ use Rattle.packing.specs.Packed.{earlier, Packs}
 use Rattle.pattern.specs.Matrix.{pattern_in}
 use Rattle.running.specs.declared.kept.Kept.{Kept}
 use Rattle.pattern.specs.declared.matrix.Matrix.{Matrix}
-use Rattle.state.specs.Ready.{ReadyIn}
+use Rattle.bound.specs.Evaluated.{Listed}
 use Rattle.running.specs.Kept.{Keeps}
 use Rattle.running.specs.Run.{Goes, rules_in, Startable}
 use Rattle.running.specs.Trying.{bettered, try_to, step_to, walk_to}
@@ -142,14 +142,14 @@ module _ {s : Search} {x : Matrix} {k budget : ℕ} (w : Startable s x k budget)
 
   -- before the first try
   pub goes_start :
-      {places rows : List ℕ} {full : ℕ} → ReadyIn x places rows full → {trail : PackedTrail} {kept : Kept} →
+      line_total (pattern_in x) ≤ mark_room → {trail : PackedTrail} {kept : Kept} →
       ((τ : List ℕ) → length τ ≤ mark_room → are_marks τ ≡ true → s.trail ≡ trail_of τ → Packs trail τ) →
       Keeps (pattern_in x) (marking (pattern_in x) (earlier (record_of s).trail)) kept →
       Goes (pattern_in x) (walk_to (rules_in s x) k 0 (record_of s)) trail s.best s.best_count s.found s.looks kept
   unfolding walk_to record_of search_of
-  goes_start ready packs holds =
+  goes_start few packs holds =
       record {
-        packs = packs (record_of s).trail (omega (arith, w.legal.within, rules_k (pattern_in x) (caps_in s), ready.total, ready.few)) w.legal.marks (ap (λ (q : Search). q.trail) w.held);
+        packs = packs (record_of s).trail (omega (arith, w.legal.within, rules_k (pattern_in x) (caps_in s), few)) w.legal.marks (ap (λ (q : Search). q.trail) w.held);
         best_is = ap (λ (q : Search). q.best) w.held;
         count_is = refl;
         found_is = ap (λ (q : Search). q.found) w.held;
@@ -176,20 +176,20 @@ module _ {s : Search} {x : Matrix} {k budget : ℕ} (w : Startable s x k budget)
 
   -- there is room for its looks
   pub looks-room :
-      {places rows : List ℕ} {full : ℕ} → ReadyIn x places rows full → (i a b : ℕ) → i < budget → (walk_to (rules_in s x) k i (record_of s)).tries ≡ s.tries + i →
+      {rows : List ℕ} → Listed x.m x.n x.nonzeros x.list.now rows → (i a b : ℕ) → i < budget → (walk_to (rules_in s x) k i (record_of s)).tries ≡ s.tries + i →
       a ≡ (walk_to (rules_in s x) k i (record_of s)).looks → b ≡ looks_at (rules_in s x) (walk_to (rules_in s x) k i (record_of s)).trail →
       a + b < 2 ^ 64
   unfolding record_of pattern_of
-  looks-room ready i a b few made ea eb =
+  looks-room listed i a b few made ea eb =
       let R = rules_in s x in
       let r = walk_to R k i (record_of s) in
-      let most = rules-looks (pattern_in x) (caps_in s) ready.listed.inside in
+      let most = rules-looks (pattern_in x) (caps_in s) listed.inside in
       let room : r.tries + 1 ≤ tries_limit + budget_limit = omega (arith, w.room) in
       omega (
         arith,
         looks-more R most r (walk-looked R most k i (record_of s) (record { few = w.looked })),
         mul_assoc (r.tries + 1) x.m x.nonzeros,
-        mul-le-mul (mul-le-mul room ready.listed.rows_small) ready.listed.small,
+        mul-le-mul (mul-le-mul room listed.rows_small) listed.small,
       )
 
   -- the search after the run

@@ -30,6 +30,7 @@ impl Kept {
     ghost use Rattle.running.specs.Laying.{first_marks, Settable, SettableIn, Givable, Keepable};
 
     // What is kept of no marks: each line has all its nonzeros left, and none leans or is torn.
+    // Inlined, so that the arrays are made where they stay.
     #[inline(always)]
     fn none(crossed: &Crossed<'_, '_>) -> Kept
         ensures { KeepsOn crossed.now (marking (pattern_in crossed.now.matrix) []) result }

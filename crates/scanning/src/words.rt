@@ -50,7 +50,7 @@ pub fn is_number(text: &[u8], from: usize, stop: usize) -> bool
     from < stop && stop - from <= 9 && stretch_end(text, Stretch::Digits, from, stop) == stop
 }
 
-// The value of a number, and 0 where there is none.
+/// The value of a number, and 0 where there is none.
 #[tactic(auto, using(crate::proofs::Joins::joins, crate::proofs::Scans::number_start, crate::proofs::Scans::number_long, crate::proofs::Scans::value_small, crate::proofs::Scans::value_start, crate::proofs::Scans::value_next, crate::proofs::Scans::digit_small), unfolding(crate::specs::Words::number_value))]
 pub fn number_value(text: &[u8], from: usize, stop: usize) -> u32
     ensures { result ≡ number_value text.now from stop }
@@ -65,7 +65,7 @@ pub fn number_value(text: &[u8], from: usize, stop: usize) -> u32
     value
 }
 
-// The number between two places, where there is one.
+/// The number between two places, where there is one.
 #[tactic(auto, using(crate::proofs::Joins::joins), unfolding(crate::specs::Words::number_value, crate::specs::Words::number_between))]
 pub fn number_between(text: &[u8], from: usize, stop: usize) -> Option<u32>
     ensures { result ≡ number_between text.now from stop }
@@ -118,8 +118,8 @@ fn third_at(text: &[u8], at: usize, end: usize, field: Field) -> Number
     }
 }
 
-// The numbers of a line, as the field has them: `Ok` where the line has them and no further word, else `Err` with what its words give;
-// a word that is no number gives 0, and 1 as the third of real.
+/// The numbers of a line, as the field has them: `Ok` where the line has them and no further word, else `Err` with what its words give;
+/// a word that is no number gives 0, and 1 as the third of real.
 #[tactic(auto, using(crate::proofs::Joins::joins), unfolding(crate::specs::Words::numbers_at))]
 pub fn numbers_at(text: &[u8], at: usize, end: usize, field: Field) -> Result<Numbers, Numbers>
     ensures { result ≡ numbers_at text.now at end field }

@@ -72,6 +72,7 @@ impl Cases<'_> {
     }
 
     /// A pattern, whose list comes after its numbers.
+    // Inlined, as `sizes` is.
     #[inline(always)]
     pub fn pattern(&mut self) -> Pattern
         ensures m { result.m ≡ number_of self.old.text.now self.old.at }

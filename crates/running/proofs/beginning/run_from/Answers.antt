@@ -11,13 +11,13 @@ use Rattle.running.proofs.beginning.run_from.Goals as goal
 pub over-crossed-requires : goal.over-crossed-requires
 over-crossed-requires c =
     let r = c.args.ranked.now in
-    crossed_made r.matrix c.lines-lines.result (ranked_counted r) c.lines-lines.ensures c.line_starts-starts.ensures c.crossings-cross.ensures.1
+    crossed_made r.matrix c.lines-lines.result (ranked_counted r.made) c.lines-lines.ensures c.line_starts-starts.ensures c.crossings-cross.ensures.1
 
 pub over-tables-requires : goal.over-tables-requires
 over-tables-requires c =
     record {
       same = c.over-crossed.ensures;
-      ordered = order_made c.args.ranked.now c.lines-lines.result c.lines-lines.ensures c.order_of-order.ensures.1;
+      ordered = order_made c.lines-lines.result c.args.ranked.now.made c.lines-lines.ensures c.order_of-order.ensures.1;
     }
 
 pub of-kept-requires : goal.of-kept-requires

@@ -5,4 +5,4 @@ use Rattle.running.proofs.tables.Tables.over.Goals as goal
 
 pub invariant_of-result : goal.invariant_of-result
 invariant_of-result c =
-    record { made = tables_ordered c.args.ranked.now c.requires.same c.args.crossed.made c.requires.ordered }
+    record { made = tables_ordered c.args.ranked.now.made c.requires.same c.args.crossed.made c.requires.ordered }
