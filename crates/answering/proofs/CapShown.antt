@@ -75,7 +75,7 @@ cap_shown_by input o m n nonzeros integer line e =
     (capped_so m n nonzeros (read_list text list_room parts_room) o.percent o.budget (cap_call nonzeros o.percent) refl)
 
 -- the answer to an input whose first line is another is a refusal, which shows no cap
-no_cap_shown :
+pub no_cap_shown :
     (input : List ℕ) (nonzeros percent : ℕ) → command_of input ≡ None → ShowsCap nonzeros percent (answer_to input)
 unfolding answer_to after_line
 no_cap_shown input nonzeros percent e =

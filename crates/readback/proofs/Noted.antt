@@ -174,7 +174,7 @@ module _
   abbrev e : Numbers
   e = entry_below text k
 
-  check_entry : entry_at text h (line_below text k) ≡ Ok e
+  pub check_entry : entry_at text h (line_below text k) ≡ Ok e
   unfolding entry_below
   check_entry = has_form h (entry_at text h (line_below text k)) place cells fine
 

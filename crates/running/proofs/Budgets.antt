@@ -30,6 +30,7 @@ use Rattle.model.proofs.Walk.Legal.{Legal, legal_empty}
 use Rattle.model.proofs.Order.RulesSound.{rules_sound}
 use Rattle.model.proofs.Order.SplitMarks.{stack-length}
 use Rattle.model.proofs.Theorems.OfList.{rules_k}
+use Rattle.running.specs.declared.tables.Ranked.{Ranked}
 use Rattle.running.specs.Trying.{walk_to}
 use Rattle.running.proofs.Walked.{Going}
 use Rattle.running.proofs.Exact.{walk_exact}
@@ -143,32 +144,32 @@ module _
     is_record : from ≡ search_of (record_of s)
     is_record = f ∙ fine_normal s full ready.few fits
 
-    pub same_record : record_of from ≡ record_of s
-    same_record = ap record_of is_record ∙ fits_back full (record_of s) ready.few fits
+    pub same_record_by : record_of from ≡ record_of s
+    same_record_by = ap record_of is_record ∙ fits_back full (record_of s) ready.few fits
 
-    pub same_rules : rules_in from x ≡ rules_in s x
-    same_rules = ap (rules_of (pattern_in x)) (normal_caps s from f)
+    pub same_rules_by : rules_in from x ≡ rules_in s x
+    same_rules_by = ap (rules_of (pattern_in x)) (normal_caps s from f)
 
     fine_trail : Going (rules_in from x) (record_of from)
     fine_trail =
         subst
         (λ (R : Rules). Going R (record_of from))
-        (sym same_rules)
-        (subst (λ (r : Record). Going (rules_in s x) r) (sym same_record) (fine_going _ x.m x.n x.nonzeros (record_of s) t.fine))
+        (sym same_rules_by)
+        (subst (λ (r : Record). Going (rules_in s x) r) (sym same_record_by) (fine_going _ x.m x.n x.nonzeros (record_of s) t.fine))
 
     from-looked : from.looks ≤ from.tries * (x.m * x.nonzeros)
     unfolding normal_of record_of
     from-looked = subst (λ (q : Search). q.looks ≤ q.tries * (x.m * x.nonzeros)) (sym f) (fine_looked _ x.m x.n x.nonzeros (record_of s) t.fine).few
 
     -- and tries can be made on it
-    pub from_readied :
+    pub from_readied_by :
         (k budget : ℕ) → k ≤ full → s.tries + budget ≤ tries_limit + budget_limit →
         Startable from x k budget
     unfolding record_of
-    from_readied k budget few room =
+    from_readied_by k budget few room =
         record {
           room = omega (arith, room, normal_tries s from f);
-          held = is_record ∙ ap search_of (sym same_record);
+          held = is_record ∙ ap search_of (sym same_record_by);
           within = omega (arith, ready.total);
           legal = fine_trail.legal;
           ended = fine_trail.ended;
@@ -181,54 +182,54 @@ module _
     walk-taken budget =
         let P = pattern_in x in
         let R = rules_in s x in
-        ap (λ (Q : Rules). walk_to Q full budget (record_of from)) same_rules
-        ∙ ap (walk_to R full budget) same_record
+        ap (λ (Q : Rules). walk_to Q full budget (record_of from)) same_rules_by
+        ∙ ap (walk_to R full budget) same_record_by
         ∙ ap (λ (k : ℕ). walk_to R k budget (record_of s)) (ready.total ∙ sym (rules_k P (caps_in s)))
         ∙ walk_exact (rules_sound P (caps_in s) ready.listed.inside) budget (record_of s) (fine_going _ x.m x.n x.nonzeros (record_of s) t.fine)
         ∙ ap (λ (c : Caps). walk (rules_of P c) budget (record_of s)) (sym (record_caps s))
 
     -- the search after an accepted run
-    pub run_walked :
+    pub run_walked_by :
         (budget : ℕ) (after : Search) → after ≡ search_of (walk_to (rules_in from x) full budget (record_of from)) →
         after ≡ search_of (ran_record (record_of s) (pattern_in x) budget)
     unfolding ran_record
-    run_walked budget after walks = walks ∙ ap search_of (walk-taken budget)
+    run_walked_by budget after walks = walks ∙ ap search_of (walk-taken budget)
 
     -- an accepted run
-    pub run_taken :
+    pub run_taken_by :
         (budget : ℕ) (after : Search) (answer : Ended) (v : Verdict) → v ≡ budget_by s.tries budget → v ≡ accepted →
         after ≡ search_of (walk_to (rules_in from x) full budget (record_of from)) →
         answer ≡ ended after.complete after.looks →
         record { answer = Ok answer; search = after } ≡ ran_after (budget_by s.tries budget) s (pattern_in x) budget
     unfolding ran_after search_of
-    run_taken budget after answer v e a walks d =
+    run_taken_by budget after answer v e a walks d =
         ap (λ (q : Ended). record { answer = Ok q; search = after }) d
-        ∙ ap (λ (q : Search). record { answer = Ok (ended q.complete q.looks); search = q }) (run_walked budget after walks)
+        ∙ ap (λ (q : Search). record { answer = Ok (ended q.complete q.looks); search = q }) (run_walked_by budget after walks)
         ∙ ap (λ (q : Verdict). ran_after q s (pattern_in x) budget) (sym a ∙ e)
 
     -- the trail of the search has at most k marks
-    pub from-short : from.trail.len ≤ full
+    pub from_short_by : from.trail.len ≤ full
     unfolding record_of marks_in
-    from-short =
+    from_short_by =
         omega (
           arith,
           stack-length (λ i. get_or from.trail.marks i 0) from.trail.len,
-          ap (λ (r : Record). length r.trail) same_record,
+          ap (λ (r : Record). length r.trail) same_record_by,
           fits.trail_fits,
         )
 
     -- with none for a full trail, and tries enough for every open marking, they find its floor
-    pub floor_readied : (budget : ℕ) → budget ≤ budget_limit → Startable from x 0 budget
+    pub floor_readied_by : (budget : ℕ) → budget ≤ budget_limit → Startable from x 0 budget
     unfolding record_of
-    floor_readied budget b =
-        from_readied 0 budget (omega arith) (omega (arith, fine_tries _ x.m x.n x.nonzeros (record_of s) t.fine))
+    floor_readied_by budget b =
+        from_readied_by 0 budget (omega arith) (omega (arith, fine_tries _ x.m x.n x.nonzeros (record_of s) t.fine))
 
-    pub floor-taken :
+    pub floor_taken_by :
         (budget : ℕ) → 2 * from.trail.len + 1 ≤ budget → (after : Search) →
         after ≡ search_of (walk_to (rules_in from x) 0 budget (record_of from)) →
         after.best_count ≡ floor (rules_in s x) (record_of s)
     unfolding search_of record_of marks_in
-    floor-taken budget enough after e =
+    floor_taken_by budget enough after e =
         ap (λ (q : Search). q.best_count) e
         ∙ floor-found
         (rules_in from x)
@@ -236,5 +237,45 @@ module _
         (record_of from)
         fine_trail
         (omega (arith, stack-length (λ i. get_or from.trail.marks i 0) from.trail.len))
-        ∙ ap (λ (R : Rules). floor R (record_of from)) same_rules
-        ∙ ap (floor (rules_in s x)) same_record
+        ∙ ap (λ (R : Rules). floor R (record_of from)) same_rules_by
+        ∙ ap (floor (rules_in s x)) same_record_by
+
+-- the same of a pattern whose lines are ranked
+module _ (ranked : Ranked) (s from : Search) (t : Tryable ranked.matrix s) (f : from ≡ normal_of s) where
+  abbrev x : Matrix
+  x = ranked.matrix
+
+  pub same_record : record_of from ≡ record_of s
+  same_record = same_record_by ranked.made.ready s from t f
+
+  pub same_rules : rules_in from x ≡ rules_in s x
+  same_rules = same_rules_by ranked.made.ready s from t f
+
+  pub from_readied :
+      (full budget : ℕ) → full ≤ ranked.full → s.tries + budget ≤ tries_limit + budget_limit →
+      Startable from x full budget
+  from_readied = from_readied_by ranked.made.ready s from t f
+
+  pub run_walked :
+      (budget : ℕ) (after : Search) → after ≡ search_of (walk_to (rules_in from x) ranked.full budget (record_of from)) →
+      after ≡ search_of (ran_record (record_of s) (pattern_in x) budget)
+  run_walked = run_walked_by ranked.made.ready s from t f
+
+  pub run_taken :
+      (budget : ℕ) (after : Search) (answer : Ended) (v : Verdict) → v ≡ budget_by s.tries budget → v ≡ accepted →
+      after ≡ search_of (walk_to (rules_in from x) ranked.full budget (record_of from)) →
+      answer ≡ ended after.complete after.looks →
+      record { answer = Ok answer; search = after } ≡ ran_after (budget_by s.tries budget) s (pattern_in x) budget
+  run_taken = run_taken_by ranked.made.ready s from t f
+
+  pub from-short : from.trail.len ≤ ranked.full
+  from-short = from_short_by ranked.made.ready s from t f
+
+  pub floor_readied : (budget : ℕ) → budget ≤ budget_limit → Startable from x 0 budget
+  floor_readied = floor_readied_by ranked.made.ready s from t f
+
+  pub floor-taken :
+      (budget : ℕ) → 2 * from.trail.len + 1 ≤ budget → (after : Search) →
+      after ≡ search_of (walk_to (rules_in from x) 0 budget (record_of from)) →
+      after.best_count ≡ floor (rules_in s x) (record_of s)
+  floor-taken = floor_taken_by ranked.made.ready s from t f

@@ -30,6 +30,7 @@ use Rattle.packing.specs.declared.PackedTrail.{PackedTrail}
 use Rattle.packing.specs.Packed.{earlier, Packs}
 use Rattle.pattern.specs.Matrix.{pattern_in}
 use Rattle.running.specs.declared.kept.Kept.{Kept}
+use Rattle.running.specs.declared.tables.Tables.{Tables}
 use Rattle.pattern.specs.declared.matrix.Matrix.{Matrix}
 use Rattle.bound.specs.Evaluated.{Listed}
 use Rattle.running.specs.Kept.{Keeps}
@@ -141,13 +142,13 @@ module _ {s : Search} {x : Matrix} {k budget : ℕ} (w : Startable s x k budget)
       (record { legal = w.legal; ended = w.ended })
 
   -- before the first try
-  pub goes_start :
+  pub goes_start_by :
       line_total (pattern_in x) ≤ mark_room → {trail : PackedTrail} {kept : Kept} →
       ((τ : List ℕ) → length τ ≤ mark_room → are_marks τ ≡ true → s.trail ≡ trail_of τ → Packs trail τ) →
       Keeps (pattern_in x) (marking (pattern_in x) (earlier (record_of s).trail)) kept →
       Goes (pattern_in x) (walk_to (rules_in s x) k 0 (record_of s)) trail s.best s.best_count s.found s.looks kept
   unfolding walk_to record_of search_of
-  goes_start few packs holds =
+  goes_start_by few packs holds =
       record {
         packs = packs (record_of s).trail (omega (arith, w.legal.within, rules_k (pattern_in x) (caps_in s), few)) w.legal.marks (ap (λ (q : Search). q.trail) w.held);
         best_is = ap (λ (q : Search). q.best) w.held;
@@ -175,12 +176,12 @@ module _ {s : Search} {x : Matrix} {k budget : ℕ} (w : Startable s x k budget)
       )
 
   -- there is room for its looks
-  pub looks-room :
+  pub looks_room_by :
       {rows : List ℕ} → Listed x.m x.n x.nonzeros x.list.now rows → (i a b : ℕ) → i < budget → (walk_to (rules_in s x) k i (record_of s)).tries ≡ s.tries + i →
       a ≡ (walk_to (rules_in s x) k i (record_of s)).looks → b ≡ looks_at (rules_in s x) (walk_to (rules_in s x) k i (record_of s)).trail →
       a + b < 2 ^ 64
   unfolding record_of pattern_of
-  looks-room listed i a b few made ea eb =
+  looks_room_by listed i a b few made ea eb =
       let R = rules_in s x in
       let r = walk_to R k i (record_of s) in
       let most = rules-looks (pattern_in x) (caps_in s) listed.inside in
@@ -233,3 +234,21 @@ module _ {s : Search} {x : Matrix} {k budget : ℕ} (w : Startable s x k budget)
       (λ done. inr ((going_at i).ended ∙ sym e ∙ not-false (eqb trail.len 0) done))
       (λ spent. inl (ltb-false i budget spent))
       (and_cases (not (eqb trail.len 0)) (ltb i budget) stop)))
+
+-- the first try and the room for looks again, of the tables of a pattern, which are those of an accepted list
+module _ (t : Tables) {s : Search} {k budget : ℕ} (w : Startable s t.crossed.matrix k budget) where
+  abbrev x : Matrix
+  x = t.crossed.matrix
+
+  pub goes_start :
+      {trail : PackedTrail} {kept : Kept} →
+      ((τ : List ℕ) → length τ ≤ mark_room → are_marks τ ≡ true → s.trail ≡ trail_of τ → Packs trail τ) →
+      Keeps (pattern_in x) (marking (pattern_in x) (earlier (record_of s).trail)) kept →
+      Goes (pattern_in x) (walk_to (rules_in s x) k 0 (record_of s)) trail s.best s.best_count s.found s.looks kept
+  goes_start packs holds = goes_start_by w (omega (arith, t.made.ready.total, t.made.ready.few)) packs holds
+
+  pub looks-room :
+      (i a b : ℕ) → i < budget → (walk_to (rules_in s x) k i (record_of s)).tries ≡ s.tries + i →
+      a ≡ (walk_to (rules_in s x) k i (record_of s)).looks → b ≡ looks_at (rules_in s x) (walk_to (rules_in s x) k i (record_of s)).trail →
+      a + b < 2 ^ 64
+  looks-room i a b few made ea eb = looks_room_by w t.made.ready.listed i a b few made ea eb

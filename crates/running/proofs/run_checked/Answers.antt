@@ -49,12 +49,12 @@ pub run_from-requires : goal.run_from-requires
 run_from-requires c =
     let fine = sym (c.state_fine-fine.ensures _ c.of-ranked.result.made.ready) ∙ not-false _ (refuse-not _ _ _ (sym c.refuse_if.ensures ∙ c.in_ok-refuse_if.was)) in
     let within = budget_within _ _ (sym c.budget_verdict.ensures ∙ c.in_ok-budget_verdict.was) in
-    from_readied c.of-ranked.result.made.ready c.args.search _ (record { fine = fine }) c.normal.ensures c.of-ranked.result.full c.args.budget (omega arith) (omega (arith, within))
+    from_readied c.of-ranked.result c.args.search _ (record { fine = fine }) c.normal.ensures c.of-ranked.result.full c.args.budget (omega arith) (omega (arith, within))
 
 pub returns : goal.returns
 returns c =
     let s = c.args.search in
     let listed = sym c.list_verdict.ensures.verdict ∙ c.in_ok-list_verdict.was in
     let fine = sym (c.state_fine-fine.ensures _ c.of-ranked.result.made.ready) ∙ not-false _ (refuse-not _ _ _ (sym c.refuse_if.ensures ∙ c.in_ok-refuse_if.was)) in
-    let after = run_walked {x = c.of-ranked.result.matrix} c.of-ranked.result.made.ready s _ (record { fine = fine }) c.normal.ensures c.args.budget _ c.run_from.ensures ∙ ap (λ (x : Matrix). search_of (ran_record (record_of s) (pattern_in x) c.args.budget)) c.of-ranked.ensures in
+    let after = run_walked c.of-ranked.result s _ (record { fine = fine }) c.normal.ensures c.args.budget _ c.run_from.ensures ∙ ap (λ (x : Matrix). search_of (ran_record (record_of s) (pattern_in x) c.args.budget)) c.of-ranked.ensures in
     check_passed _ _ _ _ _ _ _ (then-later _ _ _ _ _ _ listed (sym (ap (fine_in s) c.of-ranked.ensures) ∙ fine) ∙ sym c.budget_verdict.ensures ∙ c.in_ok-budget_verdict.was) after

@@ -11,7 +11,7 @@ use Rattle.running.proofs.presenting.floor_shown.Goals.{After-trail-1}
 short : (c : After-trail-1) → c.normal-from.result.trail.len ≤ 600
 short c =
     let r = c.args.ranked.now in
-    omega (arith, from-short r.made.ready c.args.search _ c.requires c.normal-from.ensures, r.made.ready.few)
+    omega (arith, from-short r c.args.search _ c.requires c.normal-from.ensures, r.made.ready.few)
 
 pub returns-then-search : goal.returns-then-search
 returns-then-search c = floor-done _ c.args.search c.if-search.true
@@ -25,8 +25,8 @@ overflow_add-open c = let h = short (goal.at.overflow_add-open c).After-trail-1 
 pub run_from-after-requires : goal.run_from-after-requires
 run_from-after-requires c =
     let h = short (goal.at.run_from-after-requires c).After-trail-1 in
-    floor_readied c.args.ranked.now.made.ready c.args.search _ c.requires c.normal-from.ensures _ (omega arith)
+    floor_readied c.args.ranked.now c.args.search _ c.requires c.normal-from.ensures _ (omega arith)
 
 pub returns : goal.returns
 returns c =
-    floor-taken c.args.ranked.now.made.ready c.args.search _ c.requires c.normal-from.ensures _ (omega arith) _ c.run_from-after.ensures
+    floor-taken c.args.ranked.now c.args.search _ c.requires c.normal-from.ensures _ (omega arith) _ c.run_from-after.ensures

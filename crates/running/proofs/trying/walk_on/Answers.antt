@@ -132,7 +132,7 @@ module _
 
 pub loop-trail-init : goal.loop-trail-init
 unfolding walk_to record_of
-loop-trail-init c = (omega arith, omega arith, goes_start c.requires.startable (omega (arith, c.args.tables.now.made.ready.total, c.args.tables.now.made.ready.few)) c.packed-trail.ensures c.requires.holds)
+loop-trail-init c = (omega arith, omega arith, goes_start c.args.tables.now c.requires.startable c.packed-trail.ensures c.requires.holds)
 
 pub offset_bounds-tables-len : goal.offset_bounds-tables-len
 offset_bounds-tables-len c = let h = (long c.requires c.loop-trail.made c.loop-trail.invariant.2 c.loop-trail-test.true).1 in omega arith
@@ -157,7 +157,7 @@ overflow_add-looks c =
     let some = c.loop-trail-test.true in
     let n = next c.requires l.made l.invariant.2 some c.from-l.ensures c.last-p.ensures in
     let j = judged c.requires l.made l.invariant.2 some c.try_mark-tried.result n c.try_mark-tried.ensures in
-    record { fits = looks-room c.requires.startable c.args.tables.now.made.ready.listed l.made l.looks _ c.if-made-budget.true l.invariant.1 l.invariant.2.looks_is j.2 }
+    record { fits = looks-room c.args.tables.now c.requires.startable l.made l.looks _ c.if-made-budget.true l.invariant.1 l.invariant.2.looks_is j.2 }
 
 pub lift-requires : goal.lift-requires
 lift-requires c =
